@@ -2,9 +2,9 @@
 use Rattle.std.proofs.Common.{◌≡◌, ℕ, ◌+◌, ◌<◌, List, [], ◌∷◌, ◌++◌, length, get_or, take, map}
 use Rattle.std.proofs.Common.{refl, sym, ◌∙◌, ap}
 use Rattle.std.proofs.lemmas.List.{take_more}
-use Rattle.flooding.specs.Kept.{KeptLink}
-use Rattle.flooding.specs.received.Links.{Link}
-use Rattle.flooding.specs.Links.{present}
+use Rattle.area.specs.Kept.{KeptLink}
+use Rattle.area.specs.received.Links.{Link}
+use Rattle.area.specs.Links.{present}
 use Rattle.routes.specs.declared.root.Root.{Root}
 use Rattle.area_routes.specs.Offers.{root_by}
 

@@ -4,5 +4,5 @@ pub mod Vertices
 pub mod Offers
 pub mod Kept
 -- re-exported for the crates above
-pub use Rattle.flooding.specs as flooding
+pub use Rattle.area.specs as flooding
 pub use Rattle.routes.specs as routes

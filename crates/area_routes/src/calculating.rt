@@ -6,8 +6,8 @@ ghost use Rattle.kept_routes.specs.Kept.{IsWalkOf};
 ghost use Rattle.routes.specs.Candidates.{AreCandidates};
 ghost use Rattle.routes.specs.Contents.{Contents, contents_at};
 
+use area::Area;
 use candidates::{Calculated, ExternalAdvertisement, externals_at};
-use flooding::Area;
 use kept_routes::Routes;
 use std::alloc::{AllocError, Global};
 use words::Second;

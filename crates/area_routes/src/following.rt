@@ -7,8 +7,8 @@ ghost use Rattle.kept_routes.specs.Sameness.{HaveSameContents};
 ghost use Rattle.routes.specs.Candidates.{AreCandidates};
 ghost use Rattle.routes.specs.Contents.{contents_at};
 
+use area::Area;
 use candidates::InnerRoutes;
-use flooding::Area;
 use kept_routes::{Followed, Routes, follow_externals};
 use keyed_map::Pages;
 use std::alloc::Global;

@@ -10,8 +10,8 @@ ghost use Rattle.candidates.specs.Reached.{way_in};
 
 use crate::graph_updates::update_graph;
 use crate::root::is_root_of;
+use area::Area;
 use candidates::{AreaGraph, Reached, has_no_way_out, walk};
-use flooding::Area;
 use routes::Root;
 use std::alloc::{AllocError, Global};
 use words::{RouterId, Second};

@@ -17,7 +17,7 @@ ghost use Rattle.kept_routes.specs.Sameness.{HaveSameContents};
 ghost use Rattle.routes.specs.Contents.{contents_at};
 ghost use Rattle.routes.specs.Tables.{RouteWords};
 ghost use Rattle.words.specs.Numbers.{Moment, RouterNumber};
-ghost use Rattle.flooding.specs.received.Links.{Area as AreaValue};
+ghost use Rattle.area.specs.received.Links.{Area as AreaValue};
 
 use crate::calculating::{Made, calculated, kept_or};
 use crate::following::followed;
@@ -25,8 +25,8 @@ use crate::graphs::{graph_after, graph_at, walk_by};
 use crate::matching::{Matching, matching_after, matching_by};
 use crate::root::{is_root_of, root_of};
 use crate::unchanged::{area_lsas_are_unchanged, candidates_stay, externals_stay};
+use area::Area;
 use candidates::{AreaGraph, Calculated, ExternalAdvertisement, InnerRoutes};
-use flooding::Area;
 use kept_routes::Routes;
 use kept_routes::external_updates_laws::inner_routes_are_kept;
 use kept_routes::laws::{candidates_are_kept, walks_are_kept};

@@ -20,4 +20,4 @@ mod unchanged;
 pub use graph_updates::update_graph;
 pub use kept::{AreaRoutes, Offered};
 // Re-exported for the crates above.
-pub use flooding::Link;
+pub use area::Link;

@@ -1,9 +1,9 @@
 //! The root of a router's shortest-path calculations.
 ghost use Rattle.std.specs.Prelude.{◌≡◌, ◌↔◌, IfOk, IsTrue, map};
-ghost use Rattle.flooding.specs.Links.{present};
+ghost use Rattle.area.specs.Links.{present};
 ghost use Rattle.area_routes.specs.Offers.{root_by};
 
-use flooding::{Area, Link};
+use area::{Area, Link};
 use routes::Root;
 use std::alloc::{AllocError, Global};
 use words::{Address, RouterId, Sequence};

@@ -6,7 +6,7 @@ ghost use Rattle.kept_routes.specs.Kept.{IsWalkOf};
 ghost use Rattle.kept_routes.specs.Sameness.{AreLsasUnchanged, HaveSameContents};
 ghost use Rattle.routes.specs.Contents.{contents_at};
 
-use flooding::Area;
+use area::Area;
 use kept_routes::{Routes, lsas_are_unchanged, offering_lsas_are_unchanged, possibly_changed_keys};
 use std::alloc::{AllocError, Global};
 use words::{Key, Second};

@@ -1,14 +1,14 @@
 -- The result of a call on links and database, as a part of an event: `shown` is the router from its
 -- fields.
 use Rattle.std.proofs.Common.{◌≡◌, [], Result, Ok, Err, OnOk, sym, ap, ◌∙◌}
-use Rattle.flooding.specs.received.Links.{Area}
-use Rattle.flooding.specs.received.AreaStates.{AreaState}
+use Rattle.area.specs.received.Links.{Area}
+use Rattle.area.specs.received.AreaStates.{AreaState}
 use Rattle.event_rules.specs.EventState.{EventState, on_area}
-use Rattle.flooding.specs.Doing.{AreaDoes}
-use Rattle.flooding.specs.Drafted.{drafts_with, nothing_at}
-use Rattle.flooding.specs.Kept.{RouterArea}
-use Rattle.flooding.specs.Links.{with_no_sends}
-use Rattle.flooding.proofs.Sends.{drafted_none}
+use Rattle.area.specs.Doing.{AreaDoes}
+use Rattle.area.specs.Drafted.{drafts_with, nothing_at}
+use Rattle.area.specs.Kept.{RouterArea}
+use Rattle.area.specs.Links.{with_no_sends}
+use Rattle.area.proofs.Sends.{drafted_none}
 use Rattle.router.specs.Kept.{KeptRouter}
 use Rattle.router.specs.Making.{Makes, RouterDoes}
 use Rattle.router.proofs.Making.{Appends, KeepsInterfaces, makes_on_area, then_does}

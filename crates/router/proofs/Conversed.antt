@@ -4,22 +4,22 @@ use Rattle.std.proofs.Common.{◌≡◌, ℕ, Bool, true, false, cond, List, map
 use Rattle.std.specs.Prelude.{Option, None, Some}
 use Rattle.std.specs.List.{list_all}
 use Rattle.words.specs.declared.key.Key.{Key}
-use Rattle.flooding.specs.lsdb.Copies.{Database}
-use Rattle.flooding.specs.lsdb.Headers.{Header}
+use Rattle.area.specs.lsdb.Copies.{Database}
+use Rattle.area.specs.lsdb.Headers.{Header}
 use Rattle.packet.specs.declared.model.Description.{Description}
 use Rattle.packet.specs.declared.model.Hello.{Hello}
-use Rattle.flooding.specs.adjacency.Adjacencies as adjacencies
-use Rattle.flooding.specs.adjacency.Adjacencies.{mismatch_step}
-use Rattle.flooding.specs.adjacency.Contents.{Step, Updates, no_sends}
-use Rattle.flooding.specs.adjacency.Descriptions.{after_description}
-use Rattle.flooding.specs.adjacency.Retransmissions.{after_acknowledgment}
-use Rattle.flooding.specs.received.Links.{Area, Link, link_at}
-use Rattle.flooding.specs.received.AreaStates.{AreaState, sends_at, one_neighbor, only_at, sending}
+use Rattle.area.specs.adjacency.Adjacencies as adjacencies
+use Rattle.area.specs.adjacency.Adjacencies.{mismatch_step}
+use Rattle.area.specs.adjacency.Contents.{Step, Updates, no_sends}
+use Rattle.area.specs.adjacency.Descriptions.{after_description}
+use Rattle.area.specs.adjacency.Retransmissions.{after_acknowledgment}
+use Rattle.area.specs.received.Links.{Area, Link, link_at}
+use Rattle.area.specs.received.AreaStates.{AreaState, sends_at, one_neighbor, only_at, sending}
 use Rattle.event_rules.specs.Hellos.{accepts, names}
 use Rattle.event_rules.specs.Packets.{accept_hello, receive_acknowledgment, receive_description}
 use Rattle.event_rules.specs.Packets.{receive_hello, receive_hello_on}
 use Rattle.event_rules.specs.Packets.{is_there, receive_request, requested_lsas, with_neighbor}
-use Rattle.flooding.specs.Links.{with_no_sends}
+use Rattle.area.specs.Links.{with_no_sends}
 use Rattle.router.specs.Aging.{outcomes_in_turn}
 use Rattle.router.specs.Making.{interfaces_of}
 use Rattle.router.proofs.Making.{Appends, KeepsInterfaces}

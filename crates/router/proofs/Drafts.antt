@@ -2,13 +2,13 @@
 use Rattle.std.proofs.Common.{◌≡◌, ℕ, ◌+◌, List, [], ◌∷◌, ◌++◌}
 use Rattle.std.proofs.Common.{refl, sym, ap, ◌∙◌}
 use Rattle.std.specs.List.{filter_map}
-use Rattle.flooding.specs.adjacency.Contents.{Content}
-use Rattle.flooding.specs.adjacency.Drafts.{Drafted, adds, drafting}
-use Rattle.flooding.specs.adjacency.declared.interface.Interface.{Interface}
-use Rattle.flooding.specs.received.Links.{Link}
-use Rattle.flooding.specs.received.AreaStates.{Send, at_interface}
-use Rattle.flooding.specs.Drafted.{drafts_with, drafted_from}
-use Rattle.flooding.proofs.Sends.{picked_append}
+use Rattle.area.specs.adjacency.Contents.{Content}
+use Rattle.area.specs.adjacency.Drafts.{Drafted, adds, drafting}
+use Rattle.area.specs.adjacency.declared.interface.Interface.{Interface}
+use Rattle.area.specs.received.Links.{Link}
+use Rattle.area.specs.received.AreaStates.{Send, at_interface}
+use Rattle.area.specs.Drafted.{drafts_with, drafted_from}
+use Rattle.area.proofs.Sends.{picked_append}
 use Rattle.router.specs.Making.{interfaces_of}
 
 drafting_append : (delay : ℕ) (xs ys : List Content) (d : Drafted)

@@ -16,16 +16,16 @@ use Rattle.lsa.specs.declared.body.LsaBody.{LsaBody}
 use Rattle.lsa.specs.declared.body.LsaBody.TheVariants as body
 use Rattle.lsa.specs.declared.body.LinkKind.TheVariants.{PointToPoint}
 use Rattle.lsa.specs.declared.body.RouterLink.{RouterLink}
-use Rattle.flooding.specs.Kept.{KeptLink}
-use Rattle.flooding.specs.adjacency.Drafts.{nothing_drafted}
-use Rattle.flooding.specs.adjacency.Neighbors.{Neighbor, fresh, is_full}
-use Rattle.flooding.specs.adjacency.declared.interface.Interface.{Interface}
-use Rattle.flooding.specs.adjacency.declared.state.NeighborState.TheVariants.{Full}
-use Rattle.flooding.specs.received.Links.{Link}
+use Rattle.area.specs.Kept.{KeptLink}
+use Rattle.area.specs.adjacency.Drafts.{nothing_drafted}
+use Rattle.area.specs.adjacency.Neighbors.{Neighbor, fresh, is_full}
+use Rattle.area.specs.adjacency.declared.interface.Interface.{Interface}
+use Rattle.area.specs.adjacency.declared.state.NeighborState.TheVariants.{Full}
+use Rattle.area.specs.received.Links.{Link}
 use Rattle.event_rules.specs.Endings.{links_differ, same_body}
 use Rattle.event_rules.specs.Originations.{links_of, point_to_point, router_body, stub}
-use Rattle.flooding.specs.Links.{present}
-use Rattle.flooding.proofs.Updates.{drop_end, drop_next}
+use Rattle.area.specs.Links.{present}
+use Rattle.area.proofs.Updates.{drop_end, drop_next}
 use Rattle.router.specs.Described.{interface_links, described_body, described_links}
 use Rattle.router.specs.Described.{full_router_on, full_routers, interfaces}
 use Rattle.router.proofs.Links.{router_fits, router_size}

@@ -8,22 +8,22 @@ use Rattle.std.specs.FinMap as finite
 use mathlib.Core.Bool.{false≢true}
 use Rattle.words.specs.Constants.{max_age}
 use Rattle.words.specs.declared.key.Key.{Key}
-use Rattle.flooding.specs.lsdb.Headers.{Lsa, lsa_with_age, lsa_key}
-use Rattle.flooding.specs.lsdb.Copies.{DatabaseCopy, age_prematurely, has_just_aged_out}
-use Rattle.flooding.specs.lsdb.Copies.{is_aged_out}
-use Rattle.flooding.specs.lsdb.Copies.{lsa_now}
-use Rattle.flooding.specs.adjacency.Adjacencies.{mismatch_step}
-use Rattle.flooding.specs.adjacency.Contents.{no_sends}
-use Rattle.flooding.specs.adjacency.Requests.{request_next}
-use Rattle.flooding.specs.adjacency.Retransmissions.{remove_retransmission}
-use Rattle.flooding.specs.received.Cases.{Case}
-use Rattle.flooding.specs.received.Flooding.{flood_to}
-use Rattle.flooding.specs.received.Links.{Area, any_exchange_or_loading, delay_acknowledgment}
-use Rattle.flooding.specs.received.Links.{change_link}
-use Rattle.flooding.specs.received.AreaStates.{AreaState, on_database, on_links, only_at}
-use Rattle.flooding.specs.received.AreaStates.{stepped_links}
-use Rattle.flooding.specs.received.Updates.{after_case, database_copy, flood_and_install}
-use Rattle.flooding.specs.received.Updates.{send_copy}
+use Rattle.area.specs.lsdb.Headers.{Lsa, lsa_with_age, lsa_key}
+use Rattle.area.specs.lsdb.Copies.{DatabaseCopy, age_prematurely, has_just_aged_out}
+use Rattle.area.specs.lsdb.Copies.{is_aged_out}
+use Rattle.area.specs.lsdb.Copies.{lsa_now}
+use Rattle.area.specs.adjacency.Adjacencies.{mismatch_step}
+use Rattle.area.specs.adjacency.Contents.{no_sends}
+use Rattle.area.specs.adjacency.Requests.{request_next}
+use Rattle.area.specs.adjacency.Retransmissions.{remove_retransmission}
+use Rattle.area.specs.received.Cases.{Case}
+use Rattle.area.specs.received.Flooding.{flood_to}
+use Rattle.area.specs.received.Links.{Area, any_exchange_or_loading, delay_acknowledgment}
+use Rattle.area.specs.received.Links.{change_link}
+use Rattle.area.specs.received.AreaStates.{AreaState, on_database, on_links, only_at}
+use Rattle.area.specs.received.AreaStates.{stepped_links}
+use Rattle.area.specs.received.Updates.{after_case, database_copy, flood_and_install}
+use Rattle.area.specs.received.Updates.{send_copy}
 use Rattle.event_rules.specs.Commands.{after_link_down, taken_down}
 use Rattle.event_rules.specs.Endings.{link_loading_done, remove_aged, request_all, stays}
 use Rattle.event_rules.specs.Endings.{flood_aged, flood_if_aged}
@@ -32,8 +32,8 @@ use Rattle.event_rules.specs.Originations.{flush, flush_copy, install_and_flood}
 use Rattle.event_rules.specs.Ticks.{again, expire_timers, send_acknowledgments, send_all_again}
 use Rattle.event_rules.specs.Ticks.{send_hellos}
 use Rattle.event_rules.specs.Ticks.{with_hello_sent, without_acknowledgments}
-use Rattle.flooding.specs.Cases.{is_to_be_installed}
-use Rattle.flooding.specs.Links.{age_copy, with_no_sends}
+use Rattle.area.specs.Cases.{is_to_be_installed}
+use Rattle.area.specs.Links.{age_copy, with_no_sends}
 use Rattle.router.specs.Aging.{outcomes_in_turn}
 use Rattle.router.specs.Making.{interfaces_of}
 use Rattle.router.proofs.Making.{Appends, KeepsInterfaces}

@@ -30,4 +30,4 @@ pub mod Packs
 pub mod Drafted
 pub mod Whole
 -- names from the crates below that crates above use
-pub use Rattle.flooding.proofs as flooding
+pub use Rattle.area.proofs as flooding

@@ -7,13 +7,13 @@ use Rattle.lsa.specs.Ranges.{BodyFits, LinkFits}
 use Rattle.lsa.specs.Text.{body_text}
 use Rattle.lsa.specs.declared.body.LsaBody.{LsaBody}
 use Rattle.lsa.specs.declared.body.LinkKind.TheVariants.{PointToPoint}
-use Rattle.flooding.specs.Kept.{KeptLink}
-use Rattle.flooding.specs.adjacency.Neighbors.{Neighbor, is_full}
-use Rattle.flooding.specs.received.Links.{Link}
+use Rattle.area.specs.Kept.{KeptLink}
+use Rattle.area.specs.adjacency.Neighbors.{Neighbor, is_full}
+use Rattle.area.specs.received.Links.{Link}
 use Rattle.event_rules.specs.Originations.{links_of, point_to_point, router_body, stub}
 use Rattle.event_rules.proofs.Fitting.{router_few}
 use Rattle.event_rules.proofs.Rooms.{both}
-use Rattle.flooding.specs.Links.{present}
+use Rattle.area.specs.Links.{present}
 
 -- ---- the links fit
 

@@ -3,15 +3,15 @@ use Rattle.std.proofs.Common.{◌≡◌, Bool, true, false, cond, List, [], ◌+
 use Rattle.std.proofs.Common.{IsErr, refl, sym, ap, subst, ◌∙◌}
 use Rattle.std.proofs.lemmas.List.{length-map}
 use Rattle.keyed_map.proofs.Helds.{on_ok}
-use Rattle.flooding.specs.adjacency.Drafts.{Drafted}
-use Rattle.flooding.specs.received.Links.{Area, Link}
-use Rattle.flooding.specs.received.AreaStates.{AreaState}
+use Rattle.area.specs.adjacency.Drafts.{Drafted}
+use Rattle.area.specs.received.Links.{Area, Link}
+use Rattle.area.specs.received.AreaStates.{AreaState}
 use Rattle.event_rules.specs.EventState.{EventState, on_area, on_router}
 use Rattle.event_rules.specs.Routers.{Router}
-use Rattle.flooding.specs.Drafted.{drafts_with}
-use Rattle.flooding.specs.Links.{with_no_sends}
-use Rattle.flooding.proofs.Doing.{always, on_err}
-use Rattle.flooding.proofs.Sends.{drafted_none}
+use Rattle.area.specs.Drafted.{drafts_with}
+use Rattle.area.specs.Links.{with_no_sends}
+use Rattle.area.proofs.Doing.{always, on_err}
+use Rattle.area.proofs.Sends.{drafted_none}
 use Rattle.router.specs.Aging.{outcomes_in_turn}
 use Rattle.router.specs.Kept.{KeptRouter}
 use Rattle.router.specs.Making.{IsMaking, Makes, RouterDoes, interfaces_of}

@@ -5,19 +5,19 @@ use Rattle.std.proofs.Common.{Option, None, Some, refl, sym, ap, ◌∙◌, appe
 use Rattle.std.specs.List.{AllByRecursion, filter, fold}
 use Rattle.std.specs.FinMap as finite
 use Rattle.words.specs.declared.key.Key.{Key}
-use Rattle.flooding.specs.lsdb.Headers.{Lsa}
-use Rattle.flooding.specs.lsdb.Copies.{DatabaseCopy, max_age_keys, has_just_aged_out}
-use Rattle.flooding.specs.lsdb.Copies.{is_aged_out, lsa_now}
-use Rattle.flooding.specs.adjacency.Drafts.{Drafted}
-use Rattle.flooding.specs.received.Flooding.{flood, flood_to}
-use Rattle.flooding.specs.received.Links.{Area}
-use Rattle.flooding.specs.received.AreaStates.{AreaState, Send, stepping_sends}
-use Rattle.flooding.proofs.received.Marks.{IsStill, StillThere, all_there, still_all}
-use Rattle.flooding.proofs.received.Marks.{still_marked}
+use Rattle.area.specs.lsdb.Headers.{Lsa}
+use Rattle.area.specs.lsdb.Copies.{DatabaseCopy, max_age_keys, has_just_aged_out}
+use Rattle.area.specs.lsdb.Copies.{is_aged_out, lsa_now}
+use Rattle.area.specs.adjacency.Drafts.{Drafted}
+use Rattle.area.specs.received.Flooding.{flood, flood_to}
+use Rattle.area.specs.received.Links.{Area}
+use Rattle.area.specs.received.AreaStates.{AreaState, Send, stepping_sends}
+use Rattle.area.proofs.received.Marks.{IsStill, StillThere, all_there, still_all}
+use Rattle.area.proofs.received.Marks.{still_marked}
 use Rattle.event_rules.specs.Endings.{flood_aged, flood_if_aged}
-use Rattle.flooding.specs.Drafted.{drafts_with}
-use Rattle.flooding.specs.Links.{flood_new_max_age, flood_new_max_age_copy, with_no_sends}
-use Rattle.flooding.proofs.Sends.{append_none}
+use Rattle.area.specs.Drafted.{drafts_with}
+use Rattle.area.specs.Links.{flood_new_max_age, flood_new_max_age_copy, with_no_sends}
+use Rattle.area.proofs.Sends.{append_none}
 use Rattle.router.specs.Aging.{flood_each_new_max_age, outcomes_in_turn}
 use Rattle.router.specs.Making.{interfaces_of}
 use Rattle.router.proofs.Areas.{keeps_neighbors}

@@ -4,17 +4,17 @@ use Rattle.std.proofs.Common.{length, get_or, set, refl, sym, ap, ◌∙◌, ari
 use Rattle.std.proofs.lemmas.List.{set-get_or}
 use Rattle.std.specs.List.{slice_get}
 use Rattle.std.specs.Prelude.{Some}
-use Rattle.flooding.specs.lsdb.Copies.{Database}
-use Rattle.flooding.specs.adjacency.Contents.{Content, Step}
-use Rattle.flooding.specs.adjacency.Contents as neighbor
-use Rattle.flooding.specs.adjacency.Neighbors.{Neighbor}
-use Rattle.flooding.specs.received.Links.{Area, Link, change_link, link_at}
-use Rattle.flooding.specs.received.AreaStates.{AreaState, sends_at, one_neighbor, only_at, sending}
-use Rattle.flooding.specs.received.AreaStates.{sent_on, step_on, stepped_links, stepping_sends}
-use Rattle.flooding.specs.Links.{with_no_sends, with_neighbor}
-use Rattle.flooding.specs.Steps.{one_link, sent_by}
-use Rattle.flooding.proofs.Only.{sends_only, sent_acts, sent_rests, set_only, step_acts, step_rests}
-use Rattle.flooding.proofs.Sends.{other_number, same_number}
+use Rattle.area.specs.lsdb.Copies.{Database}
+use Rattle.area.specs.adjacency.Contents.{Content, Step}
+use Rattle.area.specs.adjacency.Contents as neighbor
+use Rattle.area.specs.adjacency.Neighbors.{Neighbor}
+use Rattle.area.specs.received.Links.{Area, Link, change_link, link_at}
+use Rattle.area.specs.received.AreaStates.{AreaState, sends_at, one_neighbor, only_at, sending}
+use Rattle.area.specs.received.AreaStates.{sent_on, step_on, stepped_links, stepping_sends}
+use Rattle.area.specs.Links.{with_no_sends, with_neighbor}
+use Rattle.area.specs.Steps.{one_link, sent_by}
+use Rattle.area.proofs.Only.{sends_only, sent_acts, sent_rests, set_only, step_acts, step_rests}
+use Rattle.area.proofs.Sends.{other_number, same_number}
 
 -- ---- the link with a number
 

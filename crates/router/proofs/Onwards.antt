@@ -1,7 +1,7 @@
 -- The items of a list from an index on, one by one.
 use Rattle.std.proofs.Common.{◌≡◌, ℕ, zero, suc, ◌+◌, ◌<◌, List, [], ◌∷◌, length, get_or}
 use Rattle.std.proofs.Common.{refl, ap, ◌∙◌, arith}
-use Rattle.flooding.proofs.Acknowledged.{from}
+use Rattle.area.proofs.Acknowledged.{from}
 
 from_step : {X : Type 0} (i : ℕ) (xs : List X) (d : X) → i < length xs
     → from i xs ≡ get_or xs i d ∷ from (suc i) xs

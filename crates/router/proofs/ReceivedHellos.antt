@@ -1,16 +1,16 @@
 -- A Hello on one link.
 use Rattle.std.proofs.Common.{◌≡◌, ℕ, ◌≤◌, Bool, true, false, cond, List, [], length, sym, ap, ◌∙◌}
 use Rattle.std.specs.Prelude.{Option, Some}
-use Rattle.flooding.specs.lsdb.Copies.{Database}
+use Rattle.area.specs.lsdb.Copies.{Database}
 use Rattle.packet.specs.declared.model.Hello.{Hello}
-use Rattle.flooding.specs.adjacency.Contents.{Content, Step}
-use Rattle.flooding.specs.adjacency.Drafts.{Drafted, drafting}
-use Rattle.flooding.proofs.adjacency.Floods.{drafting-none}
-use Rattle.flooding.specs.received.Links.{Area, Link}
+use Rattle.area.specs.adjacency.Contents.{Content, Step}
+use Rattle.area.specs.adjacency.Drafts.{Drafted, drafting}
+use Rattle.area.proofs.adjacency.Floods.{drafting-none}
+use Rattle.area.specs.received.Links.{Area, Link}
 use Rattle.event_rules.specs.Hellos.{accepts}
 use Rattle.event_rules.specs.Packets.{accept_hello, receive_hello, receive_hello_on}
-use Rattle.flooding.specs.Links.{with_no_sends, with_neighbor}
-use Rattle.flooding.specs.Steps.{one_link}
+use Rattle.area.specs.Links.{with_no_sends, with_neighbor}
+use Rattle.area.specs.Steps.{one_link}
 use Rattle.router.specs.ReceivedHellos.{after_received_hello, hello_step}
 use Rattle.router.specs.ReceivedHellos.{sent_at_received_hello}
 use Rattle.router.proofs.OneLink.{changes_one, leaves, link, link_is, one_link_is, stays}

@@ -4,16 +4,16 @@ use Rattle.std.proofs.Common.{sym, ap, ◌∙◌}
 use Rattle.std.specs.List.{list_all}
 use Rattle.std.specs.Prelude.{Option, None, Some}
 use Rattle.words.specs.declared.key.Key.{Key}
-use Rattle.flooding.specs.lsdb.Copies.{Database}
-use Rattle.flooding.specs.adjacency.Adjacencies.{mismatch_step}
-use Rattle.flooding.specs.adjacency.Contents.{Step, Updates}
-use Rattle.flooding.specs.adjacency.Contents as neighbor
-use Rattle.flooding.specs.adjacency.Neighbors.{Neighbor, is_exchange_or_later}
-use Rattle.flooding.specs.adjacency.Steps.{after_request, answer_to_request, lsas_of}
-use Rattle.flooding.specs.received.Links.{Area, Link, neighbor_at, neighbor_on}
-use Rattle.flooding.specs.received.AreaStates.{sends_at, one_neighbor, sending}
+use Rattle.area.specs.lsdb.Copies.{Database}
+use Rattle.area.specs.adjacency.Adjacencies.{mismatch_step}
+use Rattle.area.specs.adjacency.Contents.{Step, Updates}
+use Rattle.area.specs.adjacency.Contents as neighbor
+use Rattle.area.specs.adjacency.Neighbors.{Neighbor, is_exchange_or_later}
+use Rattle.area.specs.adjacency.Steps.{after_request, answer_to_request, lsas_of}
+use Rattle.area.specs.received.Links.{Area, Link, neighbor_at, neighbor_on}
+use Rattle.area.specs.received.AreaStates.{sends_at, one_neighbor, sending}
 use Rattle.event_rules.specs.Packets.{neighbor_is_exchange_or_later, is_there, receive_request}
-use Rattle.flooding.specs.Links.{with_no_sends, with_neighbor}
+use Rattle.area.specs.Links.{with_no_sends, with_neighbor}
 use Rattle.router.proofs.OneLink.{leaves, link, link_is, one_neighbor_is, stays}
 use mathlib.Core.Bool.{false≢true}
 

@@ -2,15 +2,15 @@
 use Rattle.std.proofs.Common.{◌≡◌, ℕ, ◌+◌, List, [], ◌∷◌, ◌++◌, map, refl}
 use Rattle.std.specs.List.{enumerate_from, flat_map, fold}
 use Rattle.std.specs.Prelude.{Option, None, Some}
-use Rattle.flooding.specs.lsdb.Copies.{Database}
-use Rattle.flooding.specs.adjacency.Contents.{Content, Step}
-use Rattle.flooding.specs.adjacency.Contents as neighbor
-use Rattle.flooding.specs.adjacency.Neighbors.{Neighbor}
-use Rattle.flooding.specs.received.Links.{Area, Link}
-use Rattle.flooding.specs.received.AreaStates.{Send, each_neighbor, marked_database, sends_at}
-use Rattle.flooding.specs.received.AreaStates.{sent_on, step_on}
-use Rattle.flooding.specs.Links.{with_no_sends, with_neighbor}
-use Rattle.flooding.specs.Steps.{all_links}
+use Rattle.area.specs.lsdb.Copies.{Database}
+use Rattle.area.specs.adjacency.Contents.{Content, Step}
+use Rattle.area.specs.adjacency.Contents as neighbor
+use Rattle.area.specs.adjacency.Neighbors.{Neighbor}
+use Rattle.area.specs.received.Links.{Area, Link}
+use Rattle.area.specs.received.AreaStates.{Send, each_neighbor, marked_database, sends_at}
+use Rattle.area.specs.received.AreaStates.{sent_on, step_on}
+use Rattle.area.specs.Links.{with_no_sends, with_neighbor}
+use Rattle.area.specs.Steps.{all_links}
 
 pub step_is : (f : Neighbor → Step) (o : Option Neighbor) → neighbor.step_on f o ≡ step_on f o
 step_is f None = refl

@@ -7,15 +7,15 @@ use Rattle.lsa.specs.declared.fault.LsaFault.{LsaFault}
 use Rattle.lsa.specs.declared.fault.LsaError.TheVariants as errors
 use Rattle.lsa.specs.Outcome.{Reads}
 use Rattle.lsa.specs.Reading.{lsa_in, read_unless}
-use Rattle.flooding.specs.adjacency.lsdb.Headers.{Lsa}
+use Rattle.area.specs.adjacency.lsdb.Headers.{Lsa}
 use Rattle.event_rules.specs.received.Cases.{Case}
 use Rattle.event_rules.specs.received.Updates.{after_case, case_at, goes_on}
 use Rattle.event_rules.specs.EventState.{EventState, on_area}
 use Rattle.event_rules.specs.Originations.{receive_self_originated}
 use Rattle.event_rules.specs.Packets.{after_lsa, after_lsas, after_parsed, case_in}
 use Rattle.event_rules.specs.Routers.{Router}
-use Rattle.flooding.specs.Cases.{is_to_be_installed}
-use Rattle.flooding.proofs.Updates.{drop_end}
+use Rattle.area.specs.Cases.{is_to_be_installed}
+use Rattle.area.proofs.Updates.{drop_end}
 use Rattle.router.specs.Kept.{KeptRouter}
 use Rattle.router.specs.Making.{Makes}
 use Rattle.router.proofs.Making.{makes_nothing, makes_same, makes_then}

@@ -4,10 +4,10 @@ use Rattle.std.specs.Prelude.{List, [], ◌∷◌, ◌++◌}
 use Rattle.std.specs.List.{fold}
 use Rattle.words.specs.Numbers.{Moment}
 use Rattle.words.specs.declared.key.Key.{Key}
-use Rattle.flooding.specs.lsdb.Copies.{Database}
-use Rattle.flooding.specs.received.Links.{Area, Link}
-use Rattle.flooding.specs.received.AreaStates.{AreaState}
-use Rattle.flooding.specs.Links.{flood_new_max_age, with_no_sends, without_acknowledged}
+use Rattle.area.specs.lsdb.Copies.{Database}
+use Rattle.area.specs.received.Links.{Area, Link}
+use Rattle.area.specs.received.AreaStates.{AreaState}
+use Rattle.area.specs.Links.{flood_new_max_age, with_no_sends, without_acknowledged}
 
 abbrev pub without_each : List Link → Database → List Key → Database
 without_each links db keys = fold (without_acknowledged links) db keys

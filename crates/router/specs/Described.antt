@@ -5,10 +5,10 @@ use Rattle.lsa.specs.declared.body.LsaBody.{LsaBody}
 use Rattle.lsa.specs.declared.body.LsaBody.TheVariants as body
 use Rattle.lsa.specs.declared.body.RouterLink.{RouterLink}
 use Rattle.lsa.specs.declared.body.LinkKind.TheVariants.{PointToPoint}
-use Rattle.flooding.specs.adjacency.Neighbors.{Neighbor, is_full}
-use Rattle.flooding.specs.adjacency.declared.interface.Interface.{Interface}
-use Rattle.flooding.specs.adjacency.declared.state.NeighborState.{NeighborState}
-use Rattle.flooding.specs.received.Links.{Link}
+use Rattle.area.specs.adjacency.Neighbors.{Neighbor, is_full}
+use Rattle.area.specs.adjacency.declared.interface.Interface.{Interface}
+use Rattle.area.specs.adjacency.declared.state.NeighborState.{NeighborState}
+use Rattle.area.specs.received.Links.{Link}
 use Rattle.event_rules.specs.Originations.{stub}
 
 abbrev pub full_router : Option (RouterNumber × NeighborState) → Option RouterNumber

@@ -19,4 +19,4 @@ pub mod Drafts
 pub mod Fillings
 pub mod Texts
 -- names from the crates below that crates above use
-pub use Rattle.flooding.specs as flooding
+pub use Rattle.area.specs as flooding

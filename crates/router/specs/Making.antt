@@ -4,8 +4,8 @@
 -- caller rolls the router back, which drops what was drafted, too. Whatever it answers, what was
 -- committed stays the same.
 use Rattle.std.specs.Prelude.{◌≡◌, List, OnOk, Result}
-use Rattle.flooding.specs.adjacency.Drafts.{Drafted}
-use Rattle.flooding.specs.Drafted.{drafts_with}
+use Rattle.area.specs.adjacency.Drafts.{Drafted}
+use Rattle.area.specs.Drafted.{drafts_with}
 use Rattle.event_rules.specs.EventState.{EventState}
 pub use Rattle.router.specs.Described.{interfaces as interfaces_of}
 use Rattle.router.specs.Kept.{KeptRouter}

@@ -3,12 +3,12 @@ use Rattle.std.specs.Prelude.{Bool, true, ◌==◌, if◌then◌else◌, List, [
 use Rattle.std.specs.Prelude.{None, Some}
 use Rattle.words.specs.Numbers.{Moment, RouterNumber}
 use Rattle.packet.specs.declared.model.Hello.{Hello}
-use Rattle.flooding.specs.adjacency.Adjacencies.{after_hello}
-use Rattle.flooding.specs.adjacency.Contents.{Content, Step}
-use Rattle.flooding.specs.adjacency.declared.state.NeighborState.{NeighborState}
-use Rattle.flooding.specs.received.Links.{Link}
+use Rattle.area.specs.adjacency.Adjacencies.{after_hello}
+use Rattle.area.specs.adjacency.Contents.{Content, Step}
+use Rattle.area.specs.adjacency.declared.state.NeighborState.{NeighborState}
+use Rattle.area.specs.received.Links.{Link}
 use Rattle.event_rules.specs.Hellos.{accepts, names}
-use Rattle.flooding.specs.Links.{with_neighbor}
+use Rattle.area.specs.Links.{with_neighbor}
 
 -- another router becomes the neighbor only if there is none
 abbrev pub may_be_named : Option (RouterNumber × NeighborState) → RouterNumber → Bool

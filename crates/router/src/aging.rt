@@ -1,10 +1,10 @@
 //! Copies that have reached MaxAge (RFC 2328, section 14).
-ghost use Rattle.flooding.specs.Doing.{AreaDoes};
-ghost use Rattle.flooding.specs.Links.{with_no_sends};
+ghost use Rattle.area.specs.Doing.{AreaDoes};
+ghost use Rattle.area.specs.Links.{with_no_sends};
 ghost use Rattle.event_rules.specs.Endings.{flood_aged, remove_aged};
 ghost use Rattle.router.specs.Aging.{flood_each_new_max_age, without_each};
 
-use flooding::{Area, any_exchange_or_loading};
+use area::{Area, any_exchange_or_loading};
 use std::alloc::{AllocError, Global};
 use words::{Key, Second};
 

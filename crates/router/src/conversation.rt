@@ -1,7 +1,7 @@
 //! What packets from a neighbor do to the conversation with it (RFC 2328, sections 10.5 to 10.7 and
 //! 13.7).
 ghost use Rattle.std.specs.Prelude.{◌≡◌, ◌≤◌, length, true};
-ghost use Rattle.flooding.specs.received.Links.{neighbor_at};
+ghost use Rattle.area.specs.received.Links.{neighbor_at};
 ghost use Rattle.event_rules.specs.EventState.{on_area};
 ghost use Rattle.event_rules.specs.Packets.{neighbor_is_exchange_or_later, receive_acknowledgment};
 ghost use Rattle.event_rules.specs.Packets.{receive_description, receive_hello};
@@ -10,7 +10,7 @@ ghost use Rattle.router.specs.Making.{RouterDoes};
 
 use crate::received_hellos::ReceivingHello;
 use crate::router_state_router::Router;
-use flooding::{ReceivingAcknowledgment, ReceivingDescription, ReceivingRequest};
+use area::{ReceivingAcknowledgment, ReceivingDescription, ReceivingRequest};
 use lsa::Header;
 use packet::{Description, Hello};
 use std::alloc::{AllocError, Global};

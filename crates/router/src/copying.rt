@@ -1,9 +1,9 @@
 //! Copies of routers.
 ghost use Rattle.std.specs.Prelude.{◌≡◌, IfOk};
-ghost use Rattle.flooding.specs.Drafted.{nothing_at};
+ghost use Rattle.area.specs.Drafted.{nothing_at};
 
 use crate::router_state_router::Router;
-use flooding::Revertible;
+use area::Revertible;
 use keyed_map::RouteAnswers;
 use std::alloc::{AllocError, Global};
 use words::Second;

@@ -2,14 +2,14 @@
 ghost use Rattle.std.specs.Prelude.{◌≡◌, ◌≤◌, List, length, map, IfOk, IsTrue};
 ghost use Rattle.lsa.specs.Ranges.{BodyFits};
 ghost use Rattle.lsa.specs.Text.{body_text};
-ghost use Rattle.flooding.specs.received.Links.{Link as OnLink};
+ghost use Rattle.area.specs.received.Links.{Link as OnLink};
 ghost use Rattle.event_rules.specs.Endings.{copy_has_body, links_differ, same_body};
 ghost use Rattle.event_rules.specs.Originations.{router_body};
-ghost use Rattle.flooding.specs.Links.{present};
+ghost use Rattle.area.specs.Links.{present};
 ghost use Rattle.router.specs.Described.{described_body, full_routers, interfaces};
 
 use crate::router::{described_body, full_routers};
-use flooding::{DatabaseCopy, Link};
+use area::{DatabaseCopy, Link};
 use lsa::{Header, Lsa, LsaBody};
 use std::alloc::{AllocError, Global};
 use std::cmp::Ordering;

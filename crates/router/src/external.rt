@@ -5,7 +5,7 @@ ghost use Rattle.event_rules.specs.Originations.{external_body, external_key};
 ghost use Rattle.router.specs.Instances.{next_instance};
 
 use crate::instance::next_instance;
-use flooding::Lsdb;
+use area::Lsdb;
 use lsa::{ExternalLsa, Lsa, LsaBody};
 use std::alloc::{AllocError, Global};
 use words::{Address, External, RouterId, Sequence, external_key};

@@ -6,7 +6,7 @@ ghost use Rattle.lsa.specs.Text.{body_text};
 ghost use Rattle.router.specs.Instances.{next_instance};
 
 use crate::sequence::next_number;
-use flooding::Lsdb;
+use area::Lsdb;
 use lsa::{Header, Lsa, LsaBody};
 use std::alloc::{AllocError, Global};
 use words::{E_BIT, Key};

@@ -65,4 +65,4 @@ pub use router_state_router::Router;
 pub use ticks::tick;
 pub use writing::push_packets;
 // Names from the crates below that crates above use.
-pub use flooding::Case;
+pub use area::Case;

@@ -8,13 +8,13 @@ ghost use Rattle.event_rules.specs.Originations.{
   router_body,
   router_key,
 };
-ghost use Rattle.flooding.specs.Links.{present};
+ghost use Rattle.area.specs.Links.{present};
 ghost use Rattle.router.specs.Decisions.{of_instance, origination, unless_flushed};
 
 use crate::external::external_instance;
 use crate::router::router_instance;
 use crate::sequence::next_number;
-use flooding::{DatabaseCopy, Link, Lsdb};
+use area::{DatabaseCopy, Link, Lsdb};
 use lsa::Lsa;
 use std::alloc::{AllocError, Global};
 use words::{External, MIN_LS_INTERVAL, RouterId, Second, external_key, router_key};

@@ -5,7 +5,7 @@ ghost use Rattle.router.specs.Making.{RouterDoes};
 ghost use Rattle.router.specs.Parts.{install_and_flood_own};
 
 use crate::router_state_router::Router;
-use flooding::DatabaseCopy;
+use area::DatabaseCopy;
 use lsa::Lsa;
 use std::alloc::{AllocError, Global};
 use words::{Key, Second};

@@ -1,6 +1,6 @@
 //! Received packets by their types.
 ghost use Rattle.std.specs.Prelude.{◌≡◌, ◌≤◌, length};
-ghost use Rattle.flooding.specs.adjacency.Steps.{named_neighbor};
+ghost use Rattle.area.specs.adjacency.Steps.{named_neighbor};
 ghost use Rattle.event_rules.specs.received.Links.{neighbor_at};
 ghost use Rattle.event_rules.specs.Packets.{after_packet, neighbor_is_exchange_or_later, is_from};
 ghost use Rattle.event_rules.specs.Packets.{is_heard};
@@ -12,7 +12,7 @@ ghost use Rattle.router.specs.Received.{is_exchange_or_later_named, is_processed
 use crate::received_hellos::is_foreign;
 use crate::router_state_router::Router;
 use crate::updates::receive_lsas;
-use flooding::NeighborState;
+use area::NeighborState;
 use packet::{Packet, PacketBody};
 use std::alloc::{AllocError, Global};
 use words::{RouterId, Second};

@@ -4,7 +4,7 @@ ghost use Rattle.std.specs.List.{list_any};
 ghost use Rattle.event_rules.specs.Hellos.{accepts, agrees, agrees_on, is_foreign, may_be, names};
 ghost use Rattle.router.specs.ReceivedHellos.{may_be_named};
 
-use flooding::{Interface, Link, LinkStep, Lsdb, NeighborState};
+use area::{Interface, Link, LinkStep, Lsdb, NeighborState};
 use packet::Hello;
 use std::alloc::{AllocError, Global};
 use words::{E_BIT, RouterId, Second};

@@ -3,7 +3,7 @@ ghost use Rattle.std.specs.Prelude.{◌≡◌, ◌≤◌, ◌++◌, length, map,
 ghost use Rattle.std.specs.FinMap as finite;
 ghost use Rattle.words.specs.Prefixes.{mask_of, network_address};
 ghost use Rattle.event_rules.specs.Originations.{router_body, router_key, stub};
-ghost use Rattle.flooding.specs.Links.{present};
+ghost use Rattle.area.specs.Links.{present};
 ghost use Rattle.router.specs.Instances.{next_instance};
 ghost use Rattle.router.specs.Described.{
   described_body,
@@ -14,7 +14,7 @@ ghost use Rattle.router.specs.Described.{
 };
 
 use crate::instance::next_instance;
-use flooding::{Interface, Link, Lsdb, NeighborState};
+use area::{Interface, Link, Lsdb, NeighborState};
 use lsa::{LinkKind, Lsa, LsaBody, RouterLink, RouterLsa};
 use std::alloc::{AllocError, Global};
 use words::{Prefix, RouterId, Sequence, router_key};

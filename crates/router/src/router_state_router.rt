@@ -3,12 +3,12 @@ ghost use Rattle.std.specs.Prelude.{◌≡◌, ◌≤◌, IfOk, OnOk, length, ma
 ghost use Rattle.std.specs.FinMap as finite;
 ghost use Rattle.event_rules.specs.Commands.{after_install};
 ghost use Rattle.event_rules.specs.Routers.{with_links};
-ghost use Rattle.flooding.specs.Drafted.{nothing_at};
-ghost use Rattle.flooding.specs.Links.{committed_link, draft_of, present};
+ghost use Rattle.area.specs.Drafted.{nothing_at};
+ghost use Rattle.area.specs.Links.{committed_link, draft_of, present};
 ghost use Rattle.router.specs.Making.{Makes};
 ghost use Rattle.router.specs.Owned.{AreOwn};
 
-use flooding::{Area, Draft, Link, Revertible};
+use area::{Area, Draft, Link, Revertible};
 use keyed_map::{KeyedMap, RouteAnswers};
 use std::alloc::{AllocError, Global};
 use std::marker::Model;
@@ -36,10 +36,10 @@ impl Model for Router {
     ghost use Rattle.std.specs.Coded.{codes};
     ghost use Rattle.std.specs.FinMap as finite;
     ghost use Rattle.words.specs.declared.route.External.{External as Destination};
-    ghost use Rattle.flooding.specs.lsdb.Copies.{DatabaseCopy};
-    ghost use Rattle.flooding.specs.lsdb.Keys.{coded_key, key_cmp};
-    ghost use Rattle.flooding.specs.adjacency.Codes.{coded_headers, coded_keys, coded_lists};
-    ghost use Rattle.flooding.specs.adjacency.Views.{keys_of};
+    ghost use Rattle.area.specs.lsdb.Copies.{DatabaseCopy};
+    ghost use Rattle.area.specs.lsdb.Keys.{coded_key, key_cmp};
+    ghost use Rattle.area.specs.adjacency.Codes.{coded_headers, coded_keys, coded_lists};
+    ghost use Rattle.area.specs.adjacency.Views.{keys_of};
     ghost use Rattle.router.specs.Kept.{KeptRouter, coded_router};
     ghost use Rattle.router.specs.Owned.{AreOwn};
 

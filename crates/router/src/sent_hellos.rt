@@ -4,7 +4,7 @@ ghost use Rattle.event_rules.specs.Hellos.{heard_of, hello_is_due, hello_on, is_
 ghost use Rattle.router.specs.SentHellos.{routers_of};
 
 use crate::router::subnet_mask;
-use flooding::{Link, LinkStep, Lsdb, NeighborState, has_passed};
+use area::{Link, LinkStep, Lsdb, NeighborState, has_passed};
 use packet::Hello;
 use std::alloc::{AllocError, Global};
 use words::{E_BIT, RouterId, Second, Sequence};

@@ -3,7 +3,7 @@ ghost use Rattle.std.specs.Prelude.{◌≡◌, ◌≢◌, IfSome};
 ghost use Rattle.lsa.specs.Text.{reserved_sequence};
 ghost use Rattle.router.specs.Instances.{next_number, number_after};
 
-use flooding::DatabaseCopy;
+use area::DatabaseCopy;
 use words::SequenceNumber;
 
 // The next sequence number, or `None` after MaxSequenceNumber.

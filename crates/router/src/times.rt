@@ -1,7 +1,7 @@
 //! What a Tick and the end of an event do to the links and the database (RFC 2328, sections 9.5,
 //! 10.3, 10.8, 10.9, 13.5, 13.6 and 14).
 ghost use Rattle.std.specs.Prelude.{map};
-ghost use Rattle.flooding.specs.received.AreaStates.{on_links};
+ghost use Rattle.area.specs.received.AreaStates.{on_links};
 ghost use Rattle.event_rules.specs.Commands.{after_link_down};
 ghost use Rattle.event_rules.specs.EventState.{on_area};
 ghost use Rattle.event_rules.specs.Endings.{flood_aged, loading_done};
@@ -12,7 +12,7 @@ ghost use Rattle.router.specs.Parts.{request_and_remove_aged, send_what_is_due};
 use crate::aging::{flood_aged, remove_aged};
 use crate::router_state_router::Router;
 use crate::sent_hellos::SendingHello;
-use flooding::{EndLoading, ExpireTimers, Link, LinkStep, Lsdb, NextRequest, SendingAgain};
+use area::{EndLoading, ExpireTimers, Link, LinkStep, Lsdb, NextRequest, SendingAgain};
 use std::alloc::{AllocError, Global};
 use words::Second;
 

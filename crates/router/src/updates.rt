@@ -3,13 +3,13 @@ ghost use Rattle.std.specs.Prelude.{◌≡◌, ◌≤◌, IfOk, length};
 ghost use Rattle.lsa.specs.Reading.{lsa_in};
 ghost use Rattle.event_rules.specs.received.Updates.{goes_on};
 ghost use Rattle.event_rules.specs.Packets.{after_lsas, after_parsed};
-ghost use Rattle.flooding.specs.Cases.{case_of, is_to_be_installed};
+ghost use Rattle.area.specs.Cases.{case_of, is_to_be_installed};
 ghost use Rattle.router.specs.Making.{RouterDoes};
 ghost use Rattle.router.specs.Received.{goes_on_at};
 
 use crate::router_state_origination::receive_self_originated;
 use crate::router_state_router::Router;
-use flooding::Case;
+use area::Case;
 use lsa::{Lsa, LsaError, read};
 use std::alloc::{AllocError, Global};
 use words::{Second, Sequence};

@@ -1,7 +1,7 @@
 use Rattle.std.proofs.Common.{ℕ, ◌∷◌, [], ◌++◌, map, take, ap, sym, ◌∙◌}
 use Rattle.std.proofs.lemmas.List.{take_all}
-use Rattle.flooding.specs.Kept.{KeptLink}
-use Rattle.flooding.specs.Links.{present}
+use Rattle.area.specs.Kept.{KeptLink}
+use Rattle.area.specs.Links.{present}
 use Rattle.area_routes.proofs.Roots.{mapped_more}
 use Rattle.area_routes.proofs.root.addresses_of.Goals as goal
 

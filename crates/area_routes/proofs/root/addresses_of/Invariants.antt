@@ -1,6 +1,6 @@
 use Rattle.std.proofs.Common.{◌≡◌, map, take}
-use Rattle.flooding.specs.Kept.{KeptLink}
-use Rattle.flooding.specs.Links.{present}
+use Rattle.area.specs.Kept.{KeptLink}
+use Rattle.area.specs.Links.{present}
 use Rattle.area_routes.proofs.root.addresses_of.Given as goal
 
 abbrev pub invariant-loop-link : goal.invariant-loop-link

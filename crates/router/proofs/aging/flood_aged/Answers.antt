@@ -1,8 +1,8 @@
 use Rattle.std.proofs.Common.{◌≡◌, ap, sym, ◌∙◌}
-use Rattle.flooding.specs.lsdb.Copies.{max_age_keys}
-use Rattle.flooding.specs.received.Links.{Area}
-use Rattle.flooding.specs.Links.{with_no_sends}
-use Rattle.flooding.proofs.Doing.{area_rests, area_same}
+use Rattle.area.specs.lsdb.Copies.{max_age_keys}
+use Rattle.area.specs.received.Links.{Area}
+use Rattle.area.specs.Links.{with_no_sends}
+use Rattle.area.proofs.Doing.{area_rests, area_same}
 use Rattle.event_rules.specs.Endings.{flood_aged}
 use Rattle.router.specs.Aging.{flood_each_new_max_age}
 use Rattle.router.proofs.OfAge.{ages_are}

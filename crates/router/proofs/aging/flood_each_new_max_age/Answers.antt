@@ -1,12 +1,12 @@
 use Rattle.std.proofs.Common.{◌+◌, get_or, refl, sym, ap, ◌∙◌, arith}
-use Rattle.flooding.specs.received.Links.{Area}
-use Rattle.flooding.specs.received.AreaStates.{AreaState}
-use Rattle.flooding.specs.Drafted.{drafts_with}
-use Rattle.flooding.specs.Links.{flood_new_max_age}
-use Rattle.flooding.proofs.Acknowledged.{from}
+use Rattle.area.specs.received.Links.{Area}
+use Rattle.area.specs.received.AreaStates.{AreaState}
+use Rattle.area.specs.Drafted.{drafts_with}
+use Rattle.area.specs.Links.{flood_new_max_age}
+use Rattle.area.proofs.Acknowledged.{from}
 use Rattle.router.proofs.Onwards.{from_end, from_next}
-use Rattle.flooding.proofs.Sends.{drafted_none}
-use Rattle.flooding.proofs.Doing.{on_err}
+use Rattle.area.proofs.Sends.{drafted_none}
+use Rattle.area.proofs.Doing.{on_err}
 use Rattle.router.specs.Aging.{flood_each_new_max_age}
 use Rattle.router.proofs.OfAge.{drafted_after}
 use Rattle.router.proofs.aging.flood_each_new_max_age.Goals as goal

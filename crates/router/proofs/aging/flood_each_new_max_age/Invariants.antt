@@ -1,6 +1,6 @@
 use Rattle.std.proofs.Common.{◌≡◌}
-use Rattle.flooding.specs.Drafted.{drafts_with}
-use Rattle.flooding.proofs.Acknowledged.{from}
+use Rattle.area.specs.Drafted.{drafts_with}
+use Rattle.area.proofs.Acknowledged.{from}
 use Rattle.router.specs.Aging.{flood_each_new_max_age}
 use Rattle.router.proofs.aging.flood_each_new_max_age.Given as goal
 

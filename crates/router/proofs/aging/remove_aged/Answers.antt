@@ -1,10 +1,10 @@
 use Rattle.std.proofs.Common.{cond, sym, ap, ◌∙◌}
 use Rattle.std.specs.FinMap as finite
-use Rattle.flooding.specs.lsdb.Copies.{max_age_keys}
-use Rattle.flooding.specs.received.Links.{Area, any_exchange_or_loading}
-use Rattle.flooding.specs.Links.{with_no_sends}
-use Rattle.flooding.specs.received.AreaStates.{AreaState, on_database}
-use Rattle.flooding.proofs.Doing.{area_rests, area_same}
+use Rattle.area.specs.lsdb.Copies.{max_age_keys}
+use Rattle.area.specs.received.Links.{Area, any_exchange_or_loading}
+use Rattle.area.specs.Links.{with_no_sends}
+use Rattle.area.specs.received.AreaStates.{AreaState, on_database}
+use Rattle.area.proofs.Doing.{area_rests, area_same}
 use Rattle.event_rules.specs.Endings.{remove_aged, stays}
 use Rattle.router.specs.Aging.{without_each}
 use Rattle.router.proofs.Aged.{aged_leave}

@@ -1,11 +1,11 @@
 use Rattle.std.proofs.Common.{◌+◌, sym, ap, ◌∙◌, arith}
-use Rattle.flooding.proofs.Acknowledged.{from}
-use Rattle.flooding.proofs.Sends.{drafted_none}
+use Rattle.area.proofs.Acknowledged.{from}
+use Rattle.area.proofs.Sends.{drafted_none}
 use Rattle.router.proofs.Onwards.{from_end, from_next}
-use Rattle.flooding.specs.Links.{without_acknowledged}
-use Rattle.flooding.proofs.Doing.{on_err}
+use Rattle.area.specs.Links.{without_acknowledged}
+use Rattle.area.proofs.Doing.{on_err}
 use Rattle.router.specs.Aging.{without_each}
-use Rattle.flooding.proofs.Marking.{area_is}
+use Rattle.area.proofs.Marking.{area_is}
 use Rattle.router.proofs.aging.remove_each.Goals as goal
 
 pub loop-i-preserved : goal.loop-i-preserved

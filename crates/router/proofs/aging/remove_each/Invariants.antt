@@ -1,5 +1,5 @@
 use Rattle.std.proofs.Common.{◌≡◌}
-use Rattle.flooding.proofs.Acknowledged.{from}
+use Rattle.area.proofs.Acknowledged.{from}
 use Rattle.router.specs.Aging.{without_each}
 use Rattle.router.proofs.aging.remove_each.Given as goal
 

@@ -1,5 +1,5 @@
 use Rattle.std.proofs.Common.{map, arith}
-use Rattle.flooding.specs.Links.{present}
+use Rattle.area.specs.Links.{present}
 use Rattle.router.specs.Described.{interfaces}
 use Rattle.router.proofs.FullNeighbors.{count_of, described_fits, described_size}
 use Rattle.router.proofs.described.described_lsa.Goals as goal

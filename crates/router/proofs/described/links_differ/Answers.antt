@@ -1,5 +1,5 @@
 use Rattle.std.proofs.Common.{map, ◌∙◌}
-use Rattle.flooding.specs.Links.{present}
+use Rattle.area.specs.Links.{present}
 use Rattle.router.proofs.FullNeighbors.{none_differ}
 use Rattle.router.proofs.described.links_differ.Goals as goal
 

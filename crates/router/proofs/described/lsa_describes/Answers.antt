@@ -1,6 +1,6 @@
 use Rattle.std.proofs.Common.{ap, map, ◌∙◌}
 use Rattle.event_rules.specs.Endings.{same_body}
-use Rattle.flooding.specs.Links.{present}
+use Rattle.area.specs.Links.{present}
 use Rattle.router.specs.Described.{described_body, interfaces}
 use Rattle.router.proofs.FullNeighbors.{body_now}
 use Rattle.router.proofs.described.lsa_describes.Goals as goal

@@ -1,5 +1,5 @@
 use Rattle.std.proofs.Common.{ap, map, ◌∙◌}
-use Rattle.flooding.specs.Links.{present}
+use Rattle.area.specs.Links.{present}
 use Rattle.router.specs.Described.{described_body, interfaces}
 use Rattle.router.proofs.FullNeighbors.{differ_by_texts}
 use Rattle.router.proofs.described.texts_differ.Goals as goal

@@ -2,7 +2,7 @@ use Rattle.std.proofs.Common.{◌+◌, sym, ap, ◌∙◌, arith}
 use Rattle.std.specs.List.{fold}
 use Rattle.std.specs.FinMap as finite
 use Rattle.router.proofs.Onwards.{from_end, from_next}
-use Rattle.flooding.proofs.Acknowledged.{from}
+use Rattle.area.proofs.Acknowledged.{from}
 use Rattle.router.proofs.destinations.remove_each.Goals as goal
 
 pub loop-i-preserved : goal.loop-i-preserved

@@ -1,7 +1,7 @@
 use Rattle.std.proofs.Common.{◌≡◌}
 use Rattle.std.specs.List.{fold}
 use Rattle.std.specs.FinMap as finite
-use Rattle.flooding.proofs.Acknowledged.{from}
+use Rattle.area.proofs.Acknowledged.{from}
 use Rattle.router.proofs.destinations.remove_each.Given as goal
 
 abbrev pub invariant-loop-i : goal.invariant-loop-i

@@ -1,10 +1,10 @@
 use Rattle.std.proofs.Common.{◌-◌, length, ap, ◌∙◌, arith}
 use Rattle.std.proofs.lemmas.List.{length-map}
-use Rattle.flooding.specs.adjacency.Steps.{named_neighbor}
+use Rattle.area.specs.adjacency.Steps.{named_neighbor}
 use Rattle.event_rules.specs.received.Links.{neighbor_at}
-use Rattle.flooding.specs.Kept.{KeptLink, RouterArea}
-use Rattle.flooding.specs.Links.{present}
-use Rattle.flooding.proofs.Synchronizing.{shown_neighbor}
+use Rattle.area.specs.Kept.{KeptLink, RouterArea}
+use Rattle.area.specs.Links.{present}
+use Rattle.area.proofs.Synchronizing.{shown_neighbor}
 use Rattle.router.proofs.packets.neighbor_at.Goals as goal
 
 pub returns : goal.returns

@@ -1,5 +1,5 @@
 use Rattle.std.proofs.Common.{map, arith}
-use Rattle.flooding.specs.Links.{present}
+use Rattle.area.specs.Links.{present}
 use Rattle.router.specs.Described.{described_links, interfaces}
 use Rattle.router.proofs.FullNeighbors.{count_of, described_next, interface_here}
 use Rattle.router.proofs.router.described_body.Goals as goal

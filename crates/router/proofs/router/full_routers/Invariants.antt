@@ -1,5 +1,5 @@
 use Rattle.std.proofs.Common.{◌≡◌, map, take}
-use Rattle.flooding.specs.Links.{present}
+use Rattle.area.specs.Links.{present}
 use Rattle.router.specs.Described.{full_routers}
 use Rattle.router.proofs.router.full_routers.Given as goal
 

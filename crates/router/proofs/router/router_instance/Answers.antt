@@ -4,9 +4,9 @@ use Rattle.std.specs.FinMap as finite
 use Rattle.words.specs.Numbers.{RouterNumber}
 use Rattle.words.specs.declared.key.Key.{Key}
 use Rattle.lsa.specs.declared.body.LsaBody.{LsaBody}
-use Rattle.flooding.specs.Kept.{KeptLink}
+use Rattle.area.specs.Kept.{KeptLink}
 use Rattle.event_rules.specs.Originations.{router_body}
-use Rattle.flooding.specs.Links.{present}
+use Rattle.area.specs.Links.{present}
 use Rattle.router.specs.Instances.{next_instance}
 use Rattle.router.specs.Described.{described_body, full_routers, interfaces}
 use Rattle.router.proofs.FullNeighbors.{body_now}

@@ -1,5 +1,5 @@
 use Rattle.std.proofs.Common.{◌+◌, ◌∷◌, drop, refl, sym, ap, ◌∙◌, arith}
-use Rattle.flooding.proofs.Updates.{drop_next}
+use Rattle.area.proofs.Updates.{drop_next}
 use Rattle.router.proofs.Making.{as_many_links, done, refused}
 use Rattle.router.proofs.Texts.{goes_further, goes_no_further, goes_to_the_end}
 use Rattle.router.proofs.updates.receive_lsas.Goals as goal

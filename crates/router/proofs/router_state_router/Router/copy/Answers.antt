@@ -1,6 +1,6 @@
 use Rattle.std.proofs.Common.{◌≡◌, length, sym, ap, subst, ◌∙◌, arith}
 use Rattle.std.proofs.lemmas.List.{length-map}
-use Rattle.flooding.specs.Links.{committed_link, present}
+use Rattle.area.specs.Links.{committed_link, present}
 use Rattle.router.specs.Owned.{AreOwn}
 use Rattle.router.proofs.router_state_router.Router.copy.Goals as goal
 

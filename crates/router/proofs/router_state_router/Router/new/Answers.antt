@@ -1,9 +1,9 @@
 use Rattle.std.proofs.Common.{◌≡◌, length, sym, ap, subst, ◌∙◌, arith}
 use Rattle.std.proofs.lemmas.List.{length-map}
-use Rattle.flooding.specs.adjacency.Views.{keys_of}
-use Rattle.flooding.proofs.adjacency.Neighbors.{no_keys}
-use Rattle.flooding.specs.Kept.{RouterArea}
-use Rattle.flooding.specs.Links.{committed_link}
+use Rattle.area.specs.adjacency.Views.{keys_of}
+use Rattle.area.proofs.adjacency.Neighbors.{no_keys}
+use Rattle.area.specs.Kept.{RouterArea}
+use Rattle.area.specs.Links.{committed_link}
 use Rattle.router.specs.Owned.{AreOwn}
 use Rattle.router.proofs.Announced.{none_own}
 use Rattle.router.proofs.router_state_router.Router.new.Goals as goal

@@ -1,10 +1,10 @@
 use Rattle.std.proofs.Common.{refl, sym, ap, subst, ◌∙◌}
 use Rattle.std.specs.Prelude.{Option}
-use Rattle.flooding.specs.adjacency.lsdb.Headers.{Lsa}
+use Rattle.area.specs.adjacency.lsdb.Headers.{Lsa}
 use Rattle.event_rules.specs.received.Updates.{after_case, case_at, goes_on}
 use Rattle.event_rules.specs.Packets.{after_parsed}
-use Rattle.flooding.specs.Cases.{case_of}
-use Rattle.flooding.specs.Links.{with_no_sends}
+use Rattle.area.specs.Cases.{case_of}
+use Rattle.area.specs.Links.{with_no_sends}
 use Rattle.router.specs.Kept.{KeptRouter}
 use Rattle.router.specs.Making.{Makes}
 use Rattle.router.specs.Received.{goes_on_at}

@@ -1,6 +1,6 @@
 use Rattle.std.proofs.Common.{refl, ap, ◌∙◌}
 use Rattle.keyed_map.proofs.Helds.{on_ok}
-use Rattle.flooding.proofs.Doing.{if_ok}
+use Rattle.area.proofs.Doing.{if_ok}
 use Rattle.router.specs.Kept.{KeptRouter}
 use Rattle.router.proofs.Answered.{area_stays, drafts_leave}
 use Rattle.router.proofs.router_state_router.Router.take_drafts.Goals as goal
