@@ -1,1 +1,13 @@
 pub mod Told
+pub mod Made
+pub mod OneRequest
+pub mod Places
+pub mod PlacesFaults
+pub mod PlacesLine
+pub mod PlacesRaw
+pub mod Plain
+pub mod PlainRaw
+pub mod PlainSeats
+pub mod Read
+pub mod Seats
+pub mod Worked

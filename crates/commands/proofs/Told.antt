@@ -5,7 +5,7 @@ use Rattle.clap.specs.Values.{kind_of}
 use Rattle.clap.specs.declared.error.Error.{Error}
 use Rattle.clap.specs.declared.error.kind.ErrorKind.{ErrorKind}
 use Rattle.clap.specs.declared.error.kind.ErrorKind.TheVariants as kinds
-use Rattle.command_line.specs.Requests.{IsRefusal}
+use Rattle.commands.specs.Requests.{IsRefusal}
 use Rattle.commands.specs.Endings.{IsFaultOfWords}
 use Rattle.commands.specs.Statuses.{fault_of_kind_of_words, fault_of_words}
 use Rattle.commands.specs.declared.fault.CommandError.{CommandError}

@@ -7,9 +7,9 @@ use Rattle.commands.specs.declared.report.CommandOutput.{CommandOutput}
 use Rattle.commands.specs.declared.fault.CommandError.TheVariants as faults
 use Rattle.clap.specs.Simple.{App}
 use Rattle.clap.specs.declared.error.Error.{Error}
-use Rattle.command_line.specs.Requests.{Asks, IsMistake}
-use Rattle.command_line.specs.declared.requests.CommandRequest.{CommandRequest}
-use Rattle.command_line.specs.declared.requests.CommandRequest.TheVariants as requests
+use Rattle.commands.specs.Requests.{Asks, IsMistake}
+use Rattle.commands.specs.declared.requests.CommandRequest.{CommandRequest}
+use Rattle.commands.specs.declared.requests.CommandRequest.TheVariants as requests
 use Rattle.commands.specs.Statuses.{status_of}
 use Rattle.commands.specs.RawRuns.{IsBareRefused, IsRawReport}
 use Rattle.commands.specs.Runs.{IsRun}

@@ -4,3 +4,8 @@ pub mod RawRuns
 pub mod Runs
 pub mod Statuses
 pub mod Verdicts
+pub mod CommandLine
+pub mod Laws
+pub mod Requests
+pub mod Words
+pub mod Worked

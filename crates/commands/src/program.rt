@@ -3,14 +3,14 @@
 ghost use Rattle.std.specs.Prelude.{◌≡◌, ◌⊎◌, map};
 ghost use Rattle.std.specs.IoError.{error_kind};
 ghost use Rattle.clap.specs.Simple.{App};
-ghost use Rattle.command_line.specs.CommandLine.{IsCommandLine};
+ghost use Rattle.commands.specs.CommandLine.{IsCommandLine};
 ghost use Rattle.commands.specs.Endings.{Ends, EndsRequest, EndsWords, Prints, Tells};
 
 use crate::fault::{CommandError, DONE, REFUSED};
 use crate::report::CommandOutput;
+use crate::requests::CommandRequest;
 use crate::routing::Routing;
 use crate::{assembly, files, raw, run, verify};
-use command_line::CommandRequest;
 use std::alloc::Global;
 use std::io::{self, BufRead, ErrorKind, Write};
 use std::rt::Files;
@@ -68,7 +68,7 @@ pub fn end_without_words<O: Write, E: Write>(
     ensures memory { error_kind error.now ≡ ErrorKind.OutOfMemory → (result ≡ 3) ⊎ (result ≡ 4) }
     ensures told { (result ≡ 2) ⊎ (result ≡ 3) ⊎ (result ≡ 4) }
 {
-    let fault = CommandError::from(command_line::unreadable_words(alloc, error));
+    let fault = CommandError::from(crate::reading::unreadable_words(alloc, error));
     tell(&fault, output, errors)
 }
 
@@ -139,7 +139,7 @@ pub fn program<R: Files + AllocGlobal + Threads + Sync, G: Routing, I: BufRead, 
         (O.contents output.old) (O.contents output.new)
         (E.contents errors.old) (E.contents errors.new) result }
 {
-    match command_line::parse(rt.alloc(), words) {
+    match crate::reading::parse(rt.alloc(), words) {
         Ok(request) => carry_out(rt, routing, request, input, output, errors),
         Err(error) => end(Err(CommandError::from(error)), output, errors),
     }
