@@ -56,7 +56,7 @@ class TestContracts(unittest.TestCase):
                 self.assertNotIn("pub fn refuses", text)
 
     def test_a_law_and_a_member_of_a_trait(self) -> None:
-        self.assertIn("ensures { ListsAreSound }", ran("flood_laws::lists_are_sound").stdout)
+        self.assertIn("ensures { ListsAreSound }", ran("invariants::lists_are_sound").stdout)
         self.assertIn("ensures everything {", ran("absdom::Domain::within").stdout)
 
     def test_a_line_for_each_function(self) -> None:

@@ -11,8 +11,8 @@ use Rattle.adjacency.specs.Contents.{Content}
 use Rattle.received.specs.AreaStates.{AreaState, Send, marked_database}
 use Rattle.received.proofs.Marks.{changed_by}
 use Rattle.event_rules.specs.Originations.{new_instance}
-use Rattle.flood_laws.proofs.Limits.{tied_key}
-use Rattle.flood_laws.proofs.Owing.{put_other}
+use Rattle.invariants.proofs.Limits.{tied_key}
+use Rattle.invariants.proofs.Owing.{put_other}
 use Rattle.agreement_laws.proofs.Databases.{IsKept, flushed_copy, originated_copy}
 
 module _ (key : Key) where

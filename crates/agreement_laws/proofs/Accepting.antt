@@ -21,7 +21,7 @@ use Rattle.event_rules.specs.Packets.{after_packet, after_heard, is_from, is_hel
 use Rattle.event_rules.specs.Packets.{receive_description}
 use Rattle.event_rules.specs.Packets.{neighbor_is_exchange_or_later}
 use Rattle.event_rules.specs.Routers.{Occurrence, Router}
-use Rattle.flood_laws.proofs.EventWalk.{IsHeard}
+use Rattle.invariants.proofs.EventWalk.{IsHeard}
 use Rattle.agreement_laws.specs.Accepted.{AcceptsDescription, BringsDescription}
 use Rattle.agreement_laws.specs.Accepted.{accepts_description, is_accepting}
 

@@ -14,10 +14,10 @@ use Rattle.event_rules.specs.Events.{Step, initial}
 use Rattle.event_rules.specs.Hellos.{is_foreign}
 use Rattle.event_rules.specs.Routers.{Router}
 use Rattle.event_rules.proofs.Walk.{outcome}
-use Rattle.flood_laws.specs.InOrder.{IsConsistent}
-use Rattle.flood_laws.proofs.Acknowledged.{routers_stay_in_order}
-use Rattle.flood_laws.proofs.Known.{router_stays}
-use Rattle.flood_laws.proofs.Lists.{of_empty}
+use Rattle.invariants.specs.InOrder.{IsConsistent}
+use Rattle.invariants.proofs.Acknowledged.{routers_stay_in_order}
+use Rattle.invariants.proofs.Known.{router_stays}
+use Rattle.invariants.proofs.Lists.{of_empty}
 use Rattle.agreement_laws.specs.Exchanged.{Conversation, Converses, conversation_with}
 use Rattle.agreement_laws.specs.HeldWasExchanged.{is_exchange_done}
 use Rattle.agreement_laws.specs.NeighborHistories.{BeginsAnew, Doing, Ends, HasBegun, IsHistory}

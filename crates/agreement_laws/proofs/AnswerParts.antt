@@ -41,10 +41,10 @@ use Rattle.event_rules.specs.Packets.{receive_hello_on, with_neighbor}
 use Rattle.event_rules.specs.Ticks.{acknowledgments_on, again, expire_timers, hello_sent_on}
 use Rattle.event_rules.specs.Ticks.{send_acknowledgments}
 use Rattle.event_rules.specs.Ticks.{send_hellos, with_hello_sent, without_acknowledgments}
-use Rattle.flood_laws.proofs.Flooding.{flooding_so}
-use Rattle.flood_laws.proofs.Leaving.{each_kept_at, numbered_kept, stepped_kept}
-use Rattle.flood_laws.proofs.Lists.{later_is, of_cons, of_empty}
-use Rattle.flood_laws.proofs.Taken.{named_first}
+use Rattle.invariants.proofs.Flooding.{flooding_so}
+use Rattle.invariants.proofs.Leaving.{each_kept_at, numbered_kept, stepped_kept}
+use Rattle.invariants.proofs.Lists.{later_is, of_cons, of_empty}
+use Rattle.invariants.proofs.Taken.{named_first}
 use Rattle.agreement_laws.specs.Exchanged.{Conversation}
 use Rattle.agreement_laws.specs.Accepted.{accepts_description}
 use Rattle.agreement_laws.proofs.AnswerSteps.{AreOther, OfStep, Sound, With, fewer, none_sent}

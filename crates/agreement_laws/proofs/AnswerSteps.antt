@@ -35,8 +35,8 @@ use Rattle.adjacency.specs.Retransmissions.{request_again, send_again, update_ag
 use Rattle.adjacency.proofs.Kept.{chosen}
 use Rattle.received.specs.Holds.{Holds}
 use Rattle.event_rules.specs.Hellos.{is_foreign}
-use Rattle.flood_laws.proofs.Flooding.{flooding_so}
-use Rattle.flood_laws.proofs.Lists.{of_cons, of_empty}
+use Rattle.invariants.proofs.Flooding.{flooding_so}
+use Rattle.invariants.proofs.Lists.{of_cons, of_empty}
 use Rattle.agreement_laws.specs.Exchanged.{Conversation, conversation_with}
 use Rattle.agreement_laws.specs.HeldWasExchanged.{is_exchange_done}
 use Rattle.agreement_laws.specs.Answers.{HasRole, IsOpening}

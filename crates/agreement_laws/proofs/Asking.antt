@@ -20,8 +20,8 @@ use Rattle.adjacency.specs.Requests.{request_next, requested_entry, without_requ
 use Rattle.adjacency.specs.Retransmissions.{after_acknowledgment, send_again}
 use Rattle.adjacency.proofs.Kept.{chosen}
 use Rattle.received.specs.Holds.{Holds}
-use Rattle.flood_laws.proofs.Limits.{tied_key}
-use Rattle.flood_laws.proofs.Owing.{removed_other}
+use Rattle.invariants.proofs.Limits.{tied_key}
+use Rattle.invariants.proofs.Owing.{removed_other}
 use Rattle.agreement_laws.specs.Exchanged.{Conversation, conversation_with}
 use Rattle.agreement_laws.specs.Ranks.{RanksFollowTheComparison, is_at_least}
 use Rattle.agreement_laws.proofs.Ranks.{at_least_on}

@@ -12,7 +12,7 @@ use Rattle.received.specs.AreaStates.{Stepping, only_at, step_on, stepped_links}
 use Rattle.event_rules.specs.Endings.{loading_done_on}
 use Rattle.event_rules.specs.Packets.{with_neighbor}
 use Rattle.event_rules.specs.Ticks.{settled_exchange}
-use Rattle.flood_laws.proofs.Leaving.{numbered_kept, stepped_kept}
+use Rattle.invariants.proofs.Leaving.{numbered_kept, stepped_kept}
 
 module _ (P : Option Neighbor → Type 0) where
   -- ---- the neighbor of one link

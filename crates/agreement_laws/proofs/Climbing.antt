@@ -12,9 +12,9 @@ use Rattle.event_rules.specs.Endings.{start_event}
 use Rattle.event_rules.specs.Events.{Happens}
 use Rattle.event_rules.specs.Routers.{Occurrence, Router}
 use Rattle.event_rules.proofs.Walk.{outcome}
-use Rattle.flood_laws.specs.InOrder.{IsConsistent}
-use Rattle.flood_laws.proofs.Acknowledged.{in_order, order_begun, order_brings, order_kept}
-use Rattle.flood_laws.proofs.EventWalk.{IsKeptToo, event_kept_too}
+use Rattle.invariants.specs.InOrder.{IsConsistent}
+use Rattle.invariants.proofs.Acknowledged.{in_order, order_begun, order_brings, order_kept}
+use Rattle.invariants.proofs.EventWalk.{IsKeptToo, event_kept_too}
 use Rattle.agreement_laws.specs.CopiesClimb.{BecameOf, CopiesClimb, HasHad}
 use Rattle.agreement_laws.proofs.Databases.{IsKept, ages, kept_too}
 use Rattle.agreement_laws.proofs.Having.{Whole, joined, whole_at, whole_begun, whole_kept}

@@ -32,11 +32,11 @@ use Rattle.event_rules.specs.Packets.{accept_hello, receive_hello_on, requested_
 use Rattle.event_rules.specs.Routers.{Occurrence, Router}
 use Rattle.event_rules.specs.Ticks.{acknowledgments_on, again, hello_sent_on}
 use Rattle.event_rules.proofs.Walk.{OfEvent, outcome}
-use Rattle.flood_laws.specs.NewInstances.{lsas_brought}
-use Rattle.flood_laws.proofs.Acknowledged.{in_order}
-use Rattle.flood_laws.proofs.EventWalk.{IsHeard, IsKeptToo}
-use Rattle.flood_laws.proofs.Limits.{new_key, wanted_type}
-pub use Rattle.flood_laws.proofs.Leaving.{flushed_copy}
+use Rattle.invariants.specs.NewInstances.{lsas_brought}
+use Rattle.invariants.proofs.Acknowledged.{in_order}
+use Rattle.invariants.proofs.EventWalk.{IsHeard, IsKeptToo}
+use Rattle.invariants.proofs.Limits.{new_key, wanted_type}
+pub use Rattle.invariants.proofs.Leaving.{flushed_copy}
 use Rattle.agreement_laws.proofs.Cases.{is_newer_case}
 
 -- ---- copies that are stored at the moment

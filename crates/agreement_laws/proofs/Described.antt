@@ -2,7 +2,7 @@
 use Rattle.std.proofs.Common.{◌⊎◌, inl, inr, List, subst}
 use Rattle.std.specs.List.{Contains}
 use Rattle.lsdb.specs.Headers.{Header}
-use Rattle.flood_laws.proofs.Lists.{of_empty}
+use Rattle.invariants.proofs.Lists.{of_empty}
 use Rattle.agreement_laws.specs.Exchanged.{conversation_with}
 use Rattle.agreement_laws.specs.NeighborHistories.{Side, other_side, party}
 use Rattle.agreement_laws.specs.NeighborsAgree.{HoldsAsNew}

@@ -33,9 +33,9 @@ use Rattle.adjacency.specs.Descriptions.{next_description, repeat, same_flag, sl
 use Rattle.adjacency.specs.Descriptions.{with_request, with_requests, young_copies}
 use Rattle.adjacency.specs.Neighbors.{Neighbor, is_exchange_or_later}
 use Rattle.adjacency.proofs.Kept.{chosen}
-use Rattle.flood_laws.proofs.Limits.{tied_key}
-use Rattle.flood_laws.proofs.Lists.{later_is}
-use Rattle.flood_laws.proofs.Taken.{named_first}
+use Rattle.invariants.proofs.Limits.{tied_key}
+use Rattle.invariants.proofs.Lists.{later_is}
+use Rattle.invariants.proofs.Taken.{named_first}
 use Rattle.agreement_laws.specs.Exchanged.{Conversation, conversation_with}
 use Rattle.agreement_laws.specs.Ranks.{is_at_least}
 use Rattle.agreement_laws.proofs.Ages.{described_at_least, noted_at_least}

@@ -61,8 +61,8 @@ use Rattle.agreement_laws.specs.HeldWasExchanged.{NothingIsLeftToDescribe, is_ex
 use Rattle.agreement_laws.proofs.Verdicts.{as_slave_or_master, first_two, mismatch_or_accepted}
 use Rattle.agreement_laws.proofs.Steps as steps
 use Rattle.agreement_laws.proofs.AtInterface as interface
-use Rattle.flood_laws.proofs.Lists.{none_asked}
-use Rattle.flood_laws.proofs.Unasked.{brought_any}
+use Rattle.invariants.proofs.Lists.{none_asked}
+use Rattle.invariants.proofs.Unasked.{brought_any}
 
 -- ---- all entries fit
 

@@ -22,8 +22,8 @@ use Rattle.event_rules.specs.Originations.{router_key}
 use Rattle.event_rules.specs.Originations.{wanted_body}
 use Rattle.event_rules.specs.Routers.{Router}
 use Rattle.event_rules.proofs.Walk.{MayGrow, OfEvent, outcome}
-use Rattle.flood_laws.proofs.Acknowledged.{in_order, order_kept}
-use Rattle.flood_laws.proofs.Retransmitted.{IsItsOwn}
+use Rattle.invariants.proofs.Acknowledged.{in_order, order_kept}
+use Rattle.invariants.proofs.Retransmitted.{IsItsOwn}
 
 module _ (own moment : ℕ) (X : AreaState → Type 0) where
   pub record IsKeptToEnd : Type 0 where

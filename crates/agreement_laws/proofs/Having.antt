@@ -18,10 +18,10 @@ use Rattle.event_rules.specs.EventState.{EventState}
 use Rattle.event_rules.specs.Originations.{new_instance}
 use Rattle.event_rules.specs.Routers.{Occurrence, Router}
 use Rattle.event_rules.proofs.Walk.{Invariant}
-use Rattle.flood_laws.specs.NewInstances.{BringsLsa}
-use Rattle.flood_laws.proofs.Acknowledged.{in_order}
-use Rattle.flood_laws.proofs.EventWalk.{IsKeptToo, Lately, came}
-use Rattle.flood_laws.proofs.Limits.{tied_key}
+use Rattle.invariants.specs.NewInstances.{BringsLsa}
+use Rattle.invariants.proofs.Acknowledged.{in_order}
+use Rattle.invariants.proofs.EventWalk.{IsKeptToo, Lately, came}
+use Rattle.invariants.proofs.Limits.{tied_key}
 use Rattle.agreement_laws.specs.CopiesClimb.{HasHad}
 use Rattle.agreement_laws.proofs.Describing.{held, instance_at}
 use Rattle.agreement_laws.proofs.Lists.{some_same}

@@ -39,7 +39,7 @@ use Rattle.event_rules.specs.Originations.{postpone, router_body, router_key}
 use Rattle.event_rules.specs.Packets.{after_packet}
 use Rattle.event_rules.specs.Routers.{Router}
 use Rattle.event_rules.specs.Ticks.{after_tick}
-use Rattle.flood_laws.proofs.Owing.{put_same}
+use Rattle.invariants.proofs.Owing.{put_same}
 use Rattle.agreement_laws.proofs.WorkedEnds.{begins, describes_not_later, differ_not, describes_not}
 use Rattle.agreement_laws.proofs.WorkedEnds.{ends_by, last, no_time_passes}
 use Rattle.agreement_laws.proofs.WorkedOwn.{wanted}

@@ -25,9 +25,9 @@ use Rattle.event_rules.specs.Originations.{as_originated, flush, has_max_sequenc
 use Rattle.event_rules.specs.Originations.{install_and_flood, interval_is_over, new_instance}
 use Rattle.event_rules.specs.Originations.{originate_body, postpone, router_body, router_key}
 use Rattle.event_rules.specs.Routers.{Router, fresh_link, unannounced_router}
-use Rattle.flood_laws.proofs.Limits.{new_key, tied_key}
-use Rattle.flood_laws.proofs.Owing.{put_other, put_same}
-use Rattle.flood_laws.proofs.Leaving.{itself}
+use Rattle.invariants.proofs.Limits.{new_key, tied_key}
+use Rattle.invariants.proofs.Owing.{put_other, put_same}
+use Rattle.invariants.proofs.Leaving.{itself}
 use Rattle.agreement_laws.proofs.WorkedOwn.{wanted}
 
 abbrev pub interface : ℕ → Interface

@@ -6,8 +6,8 @@ use Rattle.event_rules.specs.Events.{OwnPart}
 use Rattle.event_rules.specs.EventState.{EventState}
 use Rattle.event_rules.specs.Packing.{outs_of}
 use Rattle.event_rules.specs.Routers.{Occurrence}
-use Rattle.flood_laws.specs.Keeping.{AreTexts, IsIdentityInRange}
-use Rattle.flood_laws.specs.Known.{instances_in_sends}
+use Rattle.invariants.specs.Keeping.{AreTexts, IsIdentityInRange}
+use Rattle.invariants.specs.Known.{instances_in_sends}
 use Rattle.agreement_laws.specs.NeighborHistories.{Party, TakesEvent, text_at}
 
 abbrev pub next : Party → EventState → Party

@@ -28,8 +28,8 @@ use Rattle.received.proofs.Marks.{mark_all}
 use Rattle.event_rules.specs.Endings.{stays, stays_as}
 use Rattle.event_rules.specs.Originations.{new_instance, next_sequence}
 use Rattle.event_rules.specs.Routers.{Occurrence, Router}
-use Rattle.flood_laws.proofs.Limits.{tied_key}
-use Rattle.flood_laws.proofs.Owing.{put_other, put_same}
+use Rattle.invariants.proofs.Limits.{tied_key}
+use Rattle.invariants.proofs.Owing.{put_other, put_same}
 use Rattle.agreement_laws.specs.CopiesClimb.{BecameOf, HasHad}
 use Rattle.agreement_laws.specs.Ranks.{RanksFollowTheComparison, is_at_least}
 use Rattle.agreement_laws.proofs.Lists.{some_same}

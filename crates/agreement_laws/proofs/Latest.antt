@@ -16,12 +16,12 @@ use Rattle.packet.proofs.Whole.{one_packet}
 use Rattle.event_rules.specs.Events.{OwnPart}
 use Rattle.event_rules.specs.EventState.{EventState}
 use Rattle.event_rules.specs.Routers.{Occurrence, Router}
-use Rattle.flood_laws.specs.NewInstances.{lsas_brought}
-use Rattle.flood_laws.proofs.Known.{of_member}
-use Rattle.flood_laws.proofs.Limits.{tied_key}
-use Rattle.flood_laws.proofs.Lists.{later_is}
-use Rattle.flood_laws.proofs.Taken.{named_first}
-use Rattle.flood_laws.proofs.Leaving.{itself}
+use Rattle.invariants.specs.NewInstances.{lsas_brought}
+use Rattle.invariants.proofs.Known.{of_member}
+use Rattle.invariants.proofs.Limits.{tied_key}
+use Rattle.invariants.proofs.Lists.{later_is}
+use Rattle.invariants.proofs.Taken.{named_first}
+use Rattle.invariants.proofs.Leaving.{itself}
 use Rattle.agreement_laws.specs.Accepted.{IsLastOfItsKey}
 use Rattle.agreement_laws.specs.CopiesClimb.{BringsNone, IsForeignAndAbsent}
 use Rattle.agreement_laws.specs.Held.{WasThere}

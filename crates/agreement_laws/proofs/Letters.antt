@@ -28,12 +28,12 @@ use Rattle.event_rules.specs.InstanceIdentities.{instances_in_update}
 use Rattle.event_rules.specs.Packing.{bodies, out_of, outs_at, outs_of, packet_of}
 use Rattle.event_rules.specs.Packing.{sent_lsa, IsSentText}
 use Rattle.event_rules.proofs.Rooms.{both, mapped_all, paired_all}
-use Rattle.flood_laws.specs.Keeping.{AreTexts, AreTextsAt, IsIdentityInRange}
-use Rattle.flood_laws.proofs.Known.{of_member}
-use Rattle.flood_laws.proofs.Lists.{later_is, of_cons, of_empty}
-use Rattle.flood_laws.proofs.Taken.{named_first}
-use Rattle.flood_laws.proofs.Packed.{bodies_pack}
-use Rattle.flood_laws.proofs.Keeping.{name_read}
+use Rattle.invariants.specs.Keeping.{AreTexts, AreTextsAt, IsIdentityInRange}
+use Rattle.invariants.proofs.Known.{of_member}
+use Rattle.invariants.proofs.Lists.{later_is, of_cons, of_empty}
+use Rattle.invariants.proofs.Taken.{named_first}
+use Rattle.invariants.proofs.Packed.{bodies_pack}
+use Rattle.invariants.proofs.Keeping.{name_read}
 use Rattle.agreement_laws.specs.NeighborHistories.{text_at}
 use Rattle.agreement_laws.specs.NeighborsAgree.{instances_told}
 

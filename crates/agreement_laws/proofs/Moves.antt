@@ -40,10 +40,10 @@ use Rattle.event_rules.specs.declared.model.Out.{Out}
 use Rattle.event_rules.specs.Events.{Happens}
 use Rattle.event_rules.specs.Routers.{Occurrence, Router}
 use Rattle.event_rules.proofs.Walk.{outcome}
-use Rattle.flood_laws.proofs.Leaving.{each_kept_at, stepped_kept}
-use Rattle.flood_laws.specs.InOrder.{IsConsistent}
-use Rattle.flood_laws.proofs.Acknowledged.{in_order, order_begun, order_brings, order_kept}
-use Rattle.flood_laws.proofs.EventWalk.{IsHeard, IsKeptToo, event_kept_too}
+use Rattle.invariants.proofs.Leaving.{each_kept_at, stepped_kept}
+use Rattle.invariants.specs.InOrder.{IsConsistent}
+use Rattle.invariants.proofs.Acknowledged.{in_order, order_begun, order_brings, order_kept}
+use Rattle.invariants.proofs.EventWalk.{IsHeard, IsKeptToo, event_kept_too}
 use Rattle.agreement_laws.specs.Exchanged.{Conversation, conversation_with}
 use Rattle.agreement_laws.specs.Accepted.{BringsDescription}
 use Rattle.agreement_laws.specs.Moves.{BecameOfExchange}

@@ -31,9 +31,9 @@ use Rattle.event_rules.specs.Originations.{new_instance}
 use Rattle.event_rules.specs.Packets.{receive_description}
 use Rattle.event_rules.specs.Routers.{Occurrence, Router}
 use Rattle.event_rules.proofs.Walk.{OfEvent, outcome}
-use Rattle.flood_laws.specs.InOrder.{IsConsistent}
-use Rattle.flood_laws.proofs.Acknowledged.{in_order, order_begun, order_kept}
-use Rattle.flood_laws.proofs.Leaving.{each_kept_at, stepped_kept}
+use Rattle.invariants.specs.InOrder.{IsConsistent}
+use Rattle.invariants.proofs.Acknowledged.{in_order, order_begun, order_kept}
+use Rattle.invariants.proofs.Leaving.{each_kept_at, stepped_kept}
 use Rattle.agreement_laws.specs.Exchanged.{conversation_with}
 use Rattle.agreement_laws.specs.Accepted.{AcceptsDescription, accepts_description, is_accepting}
 use Rattle.agreement_laws.specs.Numbers.{AcceptedDescriptionsMoveNumbers, HasMoved, NumbersMove}

@@ -51,11 +51,11 @@ use Rattle.event_rules.specs.Packets.{with_neighbor}
 use Rattle.event_rules.specs.Ticks.{acknowledgments_on, again, expire_timers, hello_sent_on}
 use Rattle.event_rules.specs.Ticks.{send_acknowledgments}
 use Rattle.event_rules.specs.Ticks.{send_hellos, with_hello_sent, without_acknowledgments}
-use Rattle.flood_laws.specs.Retransmissions.{AreOfTheDatabase}
-use Rattle.flood_laws.proofs.Leaving.{each_kept_at, stepped_kept}
-use Rattle.flood_laws.proofs.Limits.{tied_key}
-use Rattle.flood_laws.proofs.Owing.{put_other, put_same}
-use Rattle.flood_laws.proofs.Worlds.{mapped}
+use Rattle.invariants.specs.Retransmissions.{AreOfTheDatabase}
+use Rattle.invariants.proofs.Leaving.{each_kept_at, stepped_kept}
+use Rattle.invariants.proofs.Limits.{tied_key}
+use Rattle.invariants.proofs.Owing.{put_other, put_same}
+use Rattle.invariants.proofs.Worlds.{mapped}
 use Rattle.agreement_laws.specs.Exchanged.{Conversation, conversation_with}
 use Rattle.agreement_laws.specs.Ranks.{is_at_least}
 use Rattle.agreement_laws.proofs.Ages.{age_at_once, entry_at_least, noted_at_least}

@@ -34,13 +34,13 @@ use Rattle.event_rules.specs.Originations.{router_key}
 use Rattle.event_rules.specs.Originations.{wanted_body}
 use Rattle.event_rules.specs.Routers.{Router, fresh_link, unannounced_router}
 use Rattle.event_rules.proofs.Walk.{outcome}
-use Rattle.flood_laws.specs.InOrder.{IsConsistent}
-use Rattle.flood_laws.specs.Keeping.{IsIdentityInRange}
-use Rattle.flood_laws.specs.Known.{instances_in_content}
-use Rattle.flood_laws.proofs.Acknowledged.{routers_stay_in_order}
-use Rattle.flood_laws.proofs.Known.{named_sends, of_member}
-use Rattle.flood_laws.proofs.Lists.{later_is}
-use Rattle.flood_laws.proofs.Taken.{named_first}
+use Rattle.invariants.specs.InOrder.{IsConsistent}
+use Rattle.invariants.specs.Keeping.{IsIdentityInRange}
+use Rattle.invariants.specs.Known.{instances_in_content}
+use Rattle.invariants.proofs.Acknowledged.{routers_stay_in_order}
+use Rattle.invariants.proofs.Known.{named_sends, of_member}
+use Rattle.invariants.proofs.Lists.{later_is}
+use Rattle.invariants.proofs.Taken.{named_first}
 use Rattle.agreement_laws.specs.CopiesClimb.{BecameOf}
 use Rattle.agreement_laws.specs.NeighborHistories.{BeginsAnew, Doing, Ends, HasBegun, IsHistory}
 use Rattle.agreement_laws.specs.NeighborHistories.{Pair, Party, Side, TakesEvent, Turn, event_of}

@@ -41,10 +41,10 @@ use Rattle.event_rules.specs.Packets.{receive_hello_on, with_neighbor}
 use Rattle.event_rules.specs.Ticks.{acknowledgments_on, again, expire_timers, hello_sent_on}
 use Rattle.event_rules.specs.Ticks.{send_acknowledgments}
 use Rattle.event_rules.specs.Ticks.{send_hellos, with_hello_sent, without_acknowledgments}
-use Rattle.flood_laws.proofs.Leaving.{each_kept_at, stepped_kept}
-use Rattle.flood_laws.proofs.Limits.{tied_key}
-use Rattle.flood_laws.proofs.Owing.{put_same}
-use Rattle.flood_laws.proofs.Retransmitted.{OwnKeys, own_at}
+use Rattle.invariants.proofs.Leaving.{each_kept_at, stepped_kept}
+use Rattle.invariants.proofs.Limits.{tied_key}
+use Rattle.invariants.proofs.Owing.{put_same}
+use Rattle.invariants.proofs.Retransmitted.{OwnKeys, own_at}
 use Rattle.agreement_laws.specs.Exchanged.{Conversation}
 use Rattle.agreement_laws.specs.Ranks.{RanksFollowTheComparison, is_at_least}
 use Rattle.agreement_laws.proofs.Holding.{HasEnded, IsHeldAsNew, held_flushed, held_installed}

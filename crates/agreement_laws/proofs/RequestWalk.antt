@@ -35,14 +35,14 @@ use Rattle.event_rules.specs.Hellos.{accepts}
 use Rattle.event_rules.specs.Packets.{receive_description, requested_lsas}
 use Rattle.event_rules.specs.Routers.{Occurrence, Router}
 use Rattle.event_rules.proofs.Walk.{OfEvent, outcome}
-use Rattle.flood_laws.specs.InOrder.{IsConsistent}
-use Rattle.flood_laws.specs.NewInstances.{lsas_brought}
-use Rattle.flood_laws.proofs.Acknowledged.{in_order, order_begun, order_brings, order_kept}
-use Rattle.flood_laws.proofs.EventWalk.{IsHeard, IsKeptToo, came, event_kept_too}
-use Rattle.flood_laws.proofs.Leaving.{stepped_kept}
-use Rattle.flood_laws.proofs.Limits.{new_key, tied_key, wanted_type}
-use Rattle.flood_laws.proofs.Retransmitted.{IsItsOwn, own_at, read}
-use Rattle.flood_laws.proofs.Retransmitted as retransmitted
+use Rattle.invariants.specs.InOrder.{IsConsistent}
+use Rattle.invariants.specs.NewInstances.{lsas_brought}
+use Rattle.invariants.proofs.Acknowledged.{in_order, order_begun, order_brings, order_kept}
+use Rattle.invariants.proofs.EventWalk.{IsHeard, IsKeptToo, came, event_kept_too}
+use Rattle.invariants.proofs.Leaving.{stepped_kept}
+use Rattle.invariants.proofs.Limits.{new_key, tied_key, wanted_type}
+use Rattle.invariants.proofs.Retransmitted.{IsItsOwn, own_at, read}
+use Rattle.invariants.proofs.Retransmitted as retransmitted
 use Rattle.agreement_laws.specs.Exchanged.{Conversation, conversation_with}
 use Rattle.agreement_laws.specs.Ranks.{RanksFollowTheComparison, is_at_least}
 use Rattle.agreement_laws.specs.CopiesClimb.{BringsNone, HasHad, IsForeignAndAbsent}

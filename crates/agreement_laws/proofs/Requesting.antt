@@ -24,11 +24,11 @@ use Rattle.adjacency.specs.Descriptions.{knows_types, master_goes_on, negotiated
 use Rattle.adjacency.specs.Descriptions.{slave_replies, verdict, with_request, with_requests}
 use Rattle.adjacency.specs.Neighbors.{Neighbor, is_exchange_or_later}
 use Rattle.adjacency.proofs.Kept.{chosen}
-use Rattle.flood_laws.proofs.Limits.{tied_key}
-use Rattle.flood_laws.proofs.Lists.{later_is}
-use Rattle.flood_laws.proofs.Owing.{put_other, put_same}
-use Rattle.flood_laws.proofs.Taken.{named_first}
-use Rattle.flood_laws.proofs.Leaving.{itself}
+use Rattle.invariants.proofs.Limits.{tied_key}
+use Rattle.invariants.proofs.Lists.{later_is}
+use Rattle.invariants.proofs.Owing.{put_other, put_same}
+use Rattle.invariants.proofs.Taken.{named_first}
+use Rattle.invariants.proofs.Leaving.{itself}
 use Rattle.agreement_laws.specs.Exchanged.{Conversation, conversation_with}
 use Rattle.agreement_laws.specs.Ranks.{RanksFollowTheComparison, is_at_least}
 use Rattle.agreement_laws.specs.Accepted.{IsLastOfItsKey, accepts_description, is_accepting}

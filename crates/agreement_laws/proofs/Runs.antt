@@ -35,9 +35,9 @@ use Rattle.event_rules.specs.Originations.{wanted_body}
 use Rattle.event_rules.specs.Packing.{out_of}
 use Rattle.event_rules.specs.Routers.{Router, fresh_link, unannounced_router}
 use Rattle.event_rules.proofs.Walk.{outcome}
-use Rattle.flood_laws.specs.InOrder.{IsConsistent}
-use Rattle.flood_laws.proofs.Acknowledged.{routers_stay_in_order}
-use Rattle.flood_laws.proofs.Leaving.{stepped_kept}
+use Rattle.invariants.specs.InOrder.{IsConsistent}
+use Rattle.invariants.proofs.Acknowledged.{routers_stay_in_order}
+use Rattle.invariants.proofs.Leaving.{stepped_kept}
 use Rattle.event_rules.specs.Clocks.{ClockRunsOn}
 use Rattle.agreement_laws.specs.Exchanged.{Conversation, Converses, GoesOn}
 use Rattle.agreement_laws.specs.Exchanged.{IsExchanged, WasExchanged, conversation_with}

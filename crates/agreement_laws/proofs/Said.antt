@@ -50,9 +50,9 @@ use Rattle.event_rules.specs.Routers.{Occurrence, Router}
 use Rattle.event_rules.specs.Ticks.{acknowledgments_on, again, expire_timers, hello_sent_on}
 use Rattle.event_rules.specs.Ticks.{send_acknowledgments}
 use Rattle.event_rules.specs.Ticks.{send_hellos, with_hello_sent, without_acknowledgments}
-use Rattle.flood_laws.proofs.Known.{each_all}
-use Rattle.flood_laws.proofs.Retransmitted.{OwnKeys, own_at}
-use Rattle.flood_laws.proofs.Leaving.{itself}
+use Rattle.invariants.proofs.Known.{each_all}
+use Rattle.invariants.proofs.Retransmitted.{OwnKeys, own_at}
+use Rattle.invariants.proofs.Leaving.{itself}
 use Rattle.agreement_laws.specs.SaidIsHeld.{young}
 use Rattle.agreement_laws.specs.CopiesClimb.{HasHad}
 use Rattle.agreement_laws.proofs.Ages.{noted_at_least}

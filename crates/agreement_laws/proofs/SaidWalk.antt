@@ -23,14 +23,14 @@ use Rattle.event_rules.specs.EventState.{EventState}
 use Rattle.event_rules.specs.Events.{Happens}
 use Rattle.event_rules.specs.Routers.{Occurrence, Router}
 use Rattle.event_rules.proofs.Walk.{outcome}
-use Rattle.flood_laws.proofs.Lists.{later_is}
-use Rattle.flood_laws.proofs.Taken.{named_first}
-use Rattle.flood_laws.specs.InOrder.{IsConsistent}
-use Rattle.flood_laws.proofs.Acknowledged.{in_order, order_begun, order_brings, order_kept}
-use Rattle.flood_laws.proofs.EventWalk.{IsKeptToo, event_kept_too}
-use Rattle.flood_laws.proofs.Known.{of_member}
-use Rattle.flood_laws.proofs.Limits.{new_key, wanted_type}
-use Rattle.flood_laws.proofs.Retransmitted.{read}
+use Rattle.invariants.proofs.Lists.{later_is}
+use Rattle.invariants.proofs.Taken.{named_first}
+use Rattle.invariants.specs.InOrder.{IsConsistent}
+use Rattle.invariants.proofs.Acknowledged.{in_order, order_begun, order_brings, order_kept}
+use Rattle.invariants.proofs.EventWalk.{IsKeptToo, event_kept_too}
+use Rattle.invariants.proofs.Known.{of_member}
+use Rattle.invariants.proofs.Limits.{new_key, wanted_type}
+use Rattle.invariants.proofs.Retransmitted.{read}
 use Rattle.received.proofs.Marks.{all_there}
 use Rattle.agreement_laws.specs.SaidIsHeld.{IsAcknowledged, IsOfDatabase, IsReceived, IsToDescribe}
 use Rattle.agreement_laws.specs.SaidIsHeld.{SaysWhatIsHeld, WhatIsSaidIsHeld, young}

@@ -45,9 +45,9 @@ use Rattle.event_rules.specs.InstanceIdentities.{InstanceIdentity, identity_of_h
 use Rattle.event_rules.specs.InstanceIdentities.{identity_of_lsa}
 use Rattle.event_rules.specs.Routers.{Router}
 use Rattle.event_rules.specs.Ticks.{settled_exchange}
-use Rattle.flood_laws.proofs.Flooding.{flooding_so}
-use Rattle.flood_laws.proofs.Known.{each_all}
-use Rattle.flood_laws.proofs.Retransmitted.{if_so}
+use Rattle.invariants.proofs.Flooding.{flooding_so}
+use Rattle.invariants.proofs.Known.{each_all}
+use Rattle.invariants.proofs.Retransmitted.{if_so}
 use Rattle.agreement_laws.specs.SaidIsHeld.{IsToDescribe, Waits, young}
 use Rattle.agreement_laws.proofs.AtInterface as interface
 use Rattle.agreement_laws.proofs.Steps as steps

@@ -16,9 +16,9 @@ use Rattle.event_rules.specs.Packing.{acknowledgments, bodies, descriptions}
 use Rattle.event_rules.specs.Packing.{first_key}
 use Rattle.event_rules.specs.Packing.{header_size, hellos, in_key_order, lsa_size, out_of, outs_at}
 use Rattle.event_rules.specs.Packing.{outs_of, packed_groups, requests, update_of, updates}
-use Rattle.flood_laws.proofs.Lists.{later_is, of_cons, of_empty}
-use Rattle.flood_laws.proofs.Taken.{named_first}
-use Rattle.flood_laws.proofs.Worlds.{mapped}
+use Rattle.invariants.proofs.Lists.{later_is, of_cons, of_empty}
+use Rattle.invariants.proofs.Taken.{named_first}
+use Rattle.invariants.proofs.Worlds.{mapped}
 
 one_more : {Y : Type 0} (o : Option Y) (ys : List Y) (y : Y) → Contains ys y
     → Contains (cons_option o ys) y

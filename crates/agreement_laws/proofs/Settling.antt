@@ -25,10 +25,10 @@ use Rattle.adjacency.specs.Retransmissions.{after_acknowledgment, is_entry, remo
 use Rattle.adjacency.specs.Retransmissions.{send_again}
 use Rattle.adjacency.proofs.Kept.{chosen}
 use Rattle.received.specs.Holds.{Holds}
-use Rattle.flood_laws.proofs.Limits.{tied_key}
-use Rattle.flood_laws.proofs.Lists.{later_is}
-use Rattle.flood_laws.proofs.Owing.{put_other, put_same, removed_other}
-use Rattle.flood_laws.proofs.Taken.{named_first}
+use Rattle.invariants.proofs.Limits.{tied_key}
+use Rattle.invariants.proofs.Lists.{later_is}
+use Rattle.invariants.proofs.Owing.{put_other, put_same, removed_other}
+use Rattle.invariants.proofs.Taken.{named_first}
 use Rattle.agreement_laws.specs.Exchanged.{Conversation, conversation_with}
 use Rattle.agreement_laws.specs.Ranks.{is_at_least}
 use Rattle.agreement_laws.proofs.Ages.{noted_at_least}

@@ -18,10 +18,10 @@ use Rattle.event_rules.specs.declared.model.Config.{Config}
 use Rattle.event_rules.specs.Events.{Step, initial}
 use Rattle.event_rules.specs.InstanceIdentities.{identity_of_header, identity_of_lsa}
 use Rattle.event_rules.specs.Routers.{Occurrence, Router}
-use Rattle.flood_laws.specs.InOrder.{IsConsistent}
-use Rattle.flood_laws.proofs.Lists.{later_is, of_cons, of_empty}
-use Rattle.flood_laws.proofs.Taken.{named_first}
-use Rattle.flood_laws.proofs.Worlds.{mapped}
+use Rattle.invariants.specs.InOrder.{IsConsistent}
+use Rattle.invariants.proofs.Lists.{later_is, of_cons, of_empty}
+use Rattle.invariants.proofs.Taken.{named_first}
+use Rattle.invariants.proofs.Worlds.{mapped}
 use Rattle.agreement_laws.specs.Exchanged.{Conversation, Converses, Describes, IsExchanged}
 use Rattle.agreement_laws.specs.Exchanged.{conversation_with, headers_told}
 use Rattle.agreement_laws.specs.NeighborHistories.{Ends, IsHistory, Pair, Party, Side, TakesEvent}

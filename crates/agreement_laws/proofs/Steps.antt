@@ -29,7 +29,7 @@ use Rattle.adjacency.specs.Retransmissions.{repeats_description, request_again, 
 use Rattle.adjacency.specs.Retransmissions.{update_again}
 use Rattle.adjacency.proofs.Kept.{chosen}
 use Rattle.received.specs.Holds.{Holds}
-use Rattle.flood_laws.proofs.Flooding.{flooding_so}
+use Rattle.invariants.proofs.Flooding.{flooding_so}
 
 -- ---- a step, by its cases
 

@@ -15,9 +15,9 @@ use Rattle.received.specs.Links.{neighbor_at}
 use Rattle.received.proofs.Holding.{one_holds}
 use Rattle.event_rules.specs.Events.{Run, Step}
 use Rattle.event_rules.specs.Routers.{Router}
-use Rattle.flood_laws.specs.InOrder.{IsConsistent}
-use Rattle.flood_laws.proofs.Acknowledged.{routers_stay_in_order}
-use Rattle.flood_laws.proofs.Always.{full_request_nothing}
+use Rattle.invariants.specs.InOrder.{IsConsistent}
+use Rattle.invariants.proofs.Acknowledged.{routers_stay_in_order}
+use Rattle.invariants.proofs.Always.{full_request_nothing}
 use Rattle.agreement_laws.specs.Exchanged.{Conversation, Converses, GoesOn, conversation_with}
 use Rattle.agreement_laws.specs.Ranks.{RanksFollowTheComparison}
 use Rattle.agreement_laws.specs.Requests.{AcceptsKey, BecameOfRequest, IsRequestedOrHeld}

@@ -23,8 +23,8 @@ use Rattle.event_rules.specs.Hellos.{is_foreign}
 use Rattle.event_rules.specs.InstanceIdentities.{InstanceIdentity, identity_of_header}
 use Rattle.event_rules.specs.InstanceIdentities.{identity_of_lsa}
 use Rattle.event_rules.specs.Routers.{Router}
-use Rattle.flood_laws.specs.InOrder.{IsConsistent}
-use Rattle.flood_laws.proofs.Always.{full_request_nothing}
+use Rattle.invariants.specs.InOrder.{IsConsistent}
+use Rattle.invariants.proofs.Always.{full_request_nothing}
 use Rattle.agreement_laws.specs.CopiesClimb.{BecameOf, BringsNone, CopiesClimb, IsForeignAndAbsent}
 use Rattle.agreement_laws.specs.Exchanged.{Conversation, Converses, conversation_with}
 use Rattle.agreement_laws.specs.NeighborHistories.{Ends, HasBegun, IsHistory}

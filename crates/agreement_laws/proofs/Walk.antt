@@ -41,17 +41,17 @@ use Rattle.event_rules.specs.Originations.{new_instance}
 use Rattle.event_rules.specs.Packets.{is_from, is_hello, requested_lsas}
 use Rattle.event_rules.specs.Routers.{Occurrence, Router}
 use Rattle.event_rules.proofs.Walk.{outcome}
-use Rattle.flood_laws.specs.InOrder.{IsConsistent}
-use Rattle.flood_laws.specs.NewInstances.{lsas_brought}
-use Rattle.flood_laws.specs.Retransmissions.{AreOfTheDatabase, HasItsRetransmissions}
-use Rattle.flood_laws.proofs.Acknowledged.{in_order, order_begun, order_brings, order_kept}
-use Rattle.flood_laws.proofs.EventWalk.{IsHeard, IsKeptToo, event_kept_too}
-use Rattle.flood_laws.proofs.Leaving.{stepped_kept}
-use Rattle.flood_laws.proofs.Limits.{tied_key}
-use Rattle.flood_laws.proofs.Lists.{of_cons, of_empty}
-use Rattle.flood_laws.proofs.Retransmitted.{IsItsOwn, OwnKeys, own_at, read}
-use Rattle.flood_laws.proofs.Retransmitted as retransmitted
-use Rattle.flood_laws.proofs.Worlds.{mapped}
+use Rattle.invariants.specs.InOrder.{IsConsistent}
+use Rattle.invariants.specs.NewInstances.{lsas_brought}
+use Rattle.invariants.specs.Retransmissions.{AreOfTheDatabase, HasItsRetransmissions}
+use Rattle.invariants.proofs.Acknowledged.{in_order, order_begun, order_brings, order_kept}
+use Rattle.invariants.proofs.EventWalk.{IsHeard, IsKeptToo, event_kept_too}
+use Rattle.invariants.proofs.Leaving.{stepped_kept}
+use Rattle.invariants.proofs.Limits.{tied_key}
+use Rattle.invariants.proofs.Lists.{of_cons, of_empty}
+use Rattle.invariants.proofs.Retransmitted.{IsItsOwn, OwnKeys, own_at, read}
+use Rattle.invariants.proofs.Retransmitted as retransmitted
+use Rattle.invariants.proofs.Worlds.{mapped}
 use Rattle.agreement_laws.specs.Exchanged.{Converses, Tells, conversation_with, headers_told}
 use Rattle.agreement_laws.proofs.Ages.{aged_at_least}
 use Rattle.agreement_laws.proofs.Describing.{held, instance_at}

@@ -7,7 +7,7 @@ use Rattle.lsdb.specs.Headers.{Lsa}
 use Rattle.lsdb.specs.Order.{is_max_age}
 use Rattle.lsdb.specs.declared.order.Instance.{Instance}
 use Rattle.event_rules.specs.Routers.{Occurrence, Router}
-use Rattle.flood_laws.specs.NewInstances.{BringsLsa}
+use Rattle.invariants.specs.NewInstances.{BringsLsa}
 use Rattle.agreement_laws.specs.CopiesClimb.{BecameOf, BringsNone, HasHad}
 use Rattle.agreement_laws.specs.Ranks.{is_at_least}
 use Rattle.agreement_laws.specs.WorkedCopies.{Holds, HoldsAtMaxAge, WorkedCopies}

@@ -19,9 +19,9 @@ use Rattle.event_rules.specs.declared.model.Out.{Out}
 use Rattle.event_rules.specs.Events.{Happens, Run, Step}
 use Rattle.event_rules.specs.Packing.{out_of, outs_of}
 use Rattle.event_rules.specs.Routers.{Occurrence, Router}
-use Rattle.flood_laws.specs.InOrder.{AnnouncesItsOwn}
-use Rattle.flood_laws.proofs.Known.{router_stays}
-use Rattle.flood_laws.proofs.Taken.{named_first}
+use Rattle.invariants.specs.InOrder.{AnnouncesItsOwn}
+use Rattle.invariants.proofs.Known.{router_stays}
+use Rattle.invariants.proofs.Taken.{named_first}
 use Rattle.agreement_laws.specs.WorkedAdjacency.{IsNamingHello, describes, lonely}
 use Rattle.agreement_laws.specs.WorkedExchange.{reply}
 use Rattle.agreement_laws.specs.WorkedRun.{receives}

@@ -13,8 +13,8 @@ use Rattle.adjacency.specs.Adjacencies.{initial_description}
 use Rattle.event_rules.specs.InstanceIdentities.{identity_of_lsa}
 use Rattle.event_rules.specs.Originations.{router_key}
 use Rattle.event_rules.specs.Routers.{Occurrence}
-use Rattle.flood_laws.proofs.Taken.{named_first}
-use Rattle.flood_laws.proofs.Lists.{later_is}
+use Rattle.invariants.proofs.Taken.{named_first}
+use Rattle.invariants.proofs.Lists.{later_is}
 use Rattle.agreement_laws.specs.NeighborHistories.{Doing, Ends, HasBegun, IsHistory, Pair, Party}
 use Rattle.agreement_laws.specs.NeighborHistories.{Side, TakesEvent, Turn}
 use Rattle.agreement_laws.specs.WorkedHistory.{AHistoryMeetsThePremises}

@@ -18,8 +18,8 @@ use Rattle.adjacency.specs.Descriptions.{verdict, verdict_in, with_request}
 use Rattle.adjacency.specs.Neighbors.{Neighbor}
 use Rattle.event_rules.specs.Events.{Step}
 use Rattle.event_rules.specs.Routers.{Router}
-use Rattle.flood_laws.proofs.Owing.{put_same}
-use Rattle.flood_laws.proofs.Leaving.{itself}
+use Rattle.invariants.proofs.Owing.{put_same}
+use Rattle.invariants.proofs.Leaving.{itself}
 use Rattle.agreement_laws.specs.Accepted.{is_accepting}
 use Rattle.agreement_laws.specs.TakenIn.{WasTakenIn}
 use Rattle.agreement_laws.specs.WorkedRequests.{WorkedRequests}

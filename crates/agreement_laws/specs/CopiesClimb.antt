@@ -11,7 +11,7 @@ use Rattle.lsdb.specs.Order.{is_max_age}
 use Rattle.lsdb.specs.declared.order.Instance.{Instance}
 use Rattle.received.specs.Links.{any_has_retransmission}
 use Rattle.event_rules.specs.Routers.{Occurrence, Router}
-use Rattle.flood_laws.specs.NewInstances.{BringsLsa}
+use Rattle.invariants.specs.NewInstances.{BringsLsa}
 use Rattle.agreement_laws.specs.EachEvent.{OfEachEvent}
 use Rattle.agreement_laws.specs.Ranks.{is_at_least}
 

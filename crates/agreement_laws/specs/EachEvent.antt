@@ -4,7 +4,7 @@ use Rattle.words.specs.Numbers.{Moment}
 use Rattle.event_rules.specs.declared.model.Out.{Out}
 use Rattle.event_rules.specs.Events.{Happens}
 use Rattle.event_rules.specs.Routers.{Occurrence, Router}
-use Rattle.flood_laws.specs.InOrder.{IsConsistent}
+use Rattle.invariants.specs.InOrder.{IsConsistent}
 
 -- a property of each event of a router that is in order, as it is at each point of every run: of
 -- the router before it, its moment, the event, and the router after it

@@ -14,7 +14,7 @@ use Rattle.received.specs.Links.{neighbor_at}
 use Rattle.event_rules.specs.Events.{Step}
 use Rattle.event_rules.specs.InstanceIdentities.{InstanceIdentity, identity_of_header}
 use Rattle.event_rules.specs.Routers.{Occurrence, Router}
-use Rattle.flood_laws.specs.NewInstances.{BringsLsa}
+use Rattle.invariants.specs.NewInstances.{BringsLsa}
 use Rattle.agreement_laws.specs.Exchanged.{Conversation, Converses, conversation_with}
 use Rattle.agreement_laws.specs.NeighborHistories.{Ends, IsHistory, Pair, Side, Turn, event_of}
 use Rattle.agreement_laws.specs.NeighborHistories.{interface_of, party}

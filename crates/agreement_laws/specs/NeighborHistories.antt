@@ -10,8 +10,8 @@ use Rattle.event_rules.specs.declared.model.Out.{Out}
 use Rattle.event_rules.specs.Endings.{end_event}
 use Rattle.event_rules.specs.Events.{Happens, Step, initial}
 use Rattle.event_rules.specs.Routers.{Occurrence, Router}
-use Rattle.flood_laws.specs.Keeping.{AreTexts, IsIdentityInRange}
-use Rattle.flood_laws.specs.Known.{instances_in_sends}
+use Rattle.invariants.specs.Keeping.{AreTexts, IsIdentityInRange}
+use Rattle.invariants.specs.Known.{instances_in_sends}
 
 -- ---- the two
 

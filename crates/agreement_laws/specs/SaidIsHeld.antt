@@ -21,7 +21,7 @@ use Rattle.event_rules.specs.Endings.{end_event}
 use Rattle.event_rules.specs.Events.{Happens}
 use Rattle.event_rules.specs.InstanceIdentities.{InstanceIdentity, identity_of_header}
 use Rattle.event_rules.specs.Routers.{Occurrence, Router}
-use Rattle.flood_laws.specs.InOrder.{IsConsistent}
+use Rattle.invariants.specs.InOrder.{IsConsistent}
 use Rattle.agreement_laws.specs.CopiesClimb.{BecameOf}
 
 -- ---- what is said

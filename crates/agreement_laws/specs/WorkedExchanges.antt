@@ -15,7 +15,7 @@ use Rattle.received.specs.Links.{Link}
 use Rattle.event_rules.specs.declared.model.Out.{Out}
 use Rattle.event_rules.specs.Events.{Happens, Run, Step}
 use Rattle.event_rules.specs.Routers.{Occurrence, Router}
-use Rattle.flood_laws.specs.InOrder.{AnnouncesItsOwn}
+use Rattle.invariants.specs.InOrder.{AnnouncesItsOwn}
 use Rattle.agreement_laws.specs.WorkedAdjacency.{IsNamingHello, lonely}
 use Rattle.agreement_laws.specs.WorkedExchange.{reply}
 use Rattle.agreement_laws.specs.WorkedRun.{receives}

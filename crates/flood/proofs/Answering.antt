@@ -10,11 +10,11 @@ use Rattle.words.specs.declared.route.External.{External}
 use Rattle.words.specs.declared.route.Route.{Route}
 use Rattle.lsa.specs.Reading.{lsa_in}
 use Rattle.lsa.specs.declared.body.LsaBody.{LsaBody}
-use Rattle.flood_laws.specs.lsdb.Headers.{Lsa, lsa_key}
+use Rattle.invariants.specs.lsdb.Headers.{Lsa, lsa_key}
 use Rattle.packet.specs.declared.model.PacketBody.{PacketBody}
 use Rattle.packet.specs.declared.model.PacketBody.TheVariants as body
 use Rattle.packet.specs.declared.model.Packet.{Packet}
-use Rattle.flood_laws.specs.adjacency.Neighbors.{Neighbor}
+use Rattle.invariants.specs.adjacency.Neighbors.{Neighbor}
 use Rattle.event_rules.specs.received.Cases.{Case}
 use Rattle.event_rules.specs.received.Links.{Link, neighbor_at}
 use Rattle.event_rules.specs.received.AreaStates.{on_links}

@@ -1,17 +1,17 @@
 -- What the code does in an event, in terms of the rules.
 use Rattle.std.proofs.Common.{◌≡◌, ℕ, true, false, List, None, refl, sym, ap, ◌∙◌}
 use Rattle.std.specs.List.{AllByRecursion}
-use Rattle.flood_laws.specs.adjacency.Rooms.{HasRoom}
+use Rattle.invariants.specs.adjacency.Rooms.{HasRoom}
 use Rattle.event_rules.specs.received.AreaStates.{Send}
 use Rattle.event_rules.specs.RoomLaws.{IsRoomy}
 use Rattle.event_rules.proofs.Roomy.{every_packet_has_room}
 use Rattle.event_rules.specs.declared.model.Out.{Out}
-use Rattle.flood_laws.specs.InOrder.{AnnouncesItsOwn, IsConsistent}
-use Rattle.flood_laws.specs.Keeping.{AnnouncesAddress, AreTexts, HasNumbersInRange}
-use Rattle.flood_laws.specs.Keeping.{KeepsWhatIsKnown}
-use Rattle.flood_laws.proofs.Keeping.{events_keep_what_is_known, instances_stay_in_range}
-use Rattle.flood_laws.proofs.Known.{router_stays}
-use Rattle.flood_laws.proofs.Acknowledged.{routers_stay_in_order}
+use Rattle.invariants.specs.InOrder.{AnnouncesItsOwn, IsConsistent}
+use Rattle.invariants.specs.Keeping.{AnnouncesAddress, AreTexts, HasNumbersInRange}
+use Rattle.invariants.specs.Keeping.{KeepsWhatIsKnown}
+use Rattle.invariants.proofs.Keeping.{events_keep_what_is_known, instances_stay_in_range}
+use Rattle.invariants.proofs.Known.{router_stays}
+use Rattle.invariants.proofs.Acknowledged.{routers_stay_in_order}
 use Rattle.event_rules.specs.Endings.{start_event}
 use Rattle.event_rules.specs.Events.{Happens}
 use Rattle.event_rules.specs.Packing.{outs_of}

@@ -2,8 +2,8 @@
 use Rattle.std.proofs.Common.{◌≡◌, ℕ, suc, ◌+◌, ◌≤◌, false, List, [], ◌∷◌, length, Result, Ok, Err}
 use Rattle.std.proofs.Common.{OnOk, IfOk, refl, sym, ap, subst, ◌∙◌}
 use Rattle.std.specs.List.{AllByRecursion}
-use Rattle.flood_laws.specs.adjacency.Drafts.{Drafted}
-use Rattle.flood_laws.specs.adjacency.Rooms.{HasRoom}
+use Rattle.invariants.specs.adjacency.Drafts.{Drafted}
+use Rattle.invariants.specs.adjacency.Rooms.{HasRoom}
 use Rattle.event_rules.specs.received.AreaStates.{Send}
 use Rattle.event_rules.specs.declared.model.CoreError.{CoreError}
 use Rattle.event_rules.specs.declared.model.CoreError.TheVariants as error

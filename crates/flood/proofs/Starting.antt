@@ -3,7 +3,7 @@ use Rattle.std.proofs.Common.{◌≡◌, ◌≤◌, true, length, List, map, [],
 use Rattle.std.proofs.Common.{sym, ap, ◌∙◌, arith}
 use Rattle.std.proofs.lemmas.Bool.{and_parts, leb-true}
 use Rattle.std.proofs.lemmas.List.{length-map}
-use Rattle.flood_laws.specs.adjacency.declared.interface.Interface.{Interface}
+use Rattle.invariants.specs.adjacency.declared.interface.Interface.{Interface}
 use Rattle.event_rules.specs.declared.model.Config.{Config}
 use Rattle.event_rules.specs.EventState.{EventState}
 use Rattle.event_rules.specs.Routers.{fresh_link, in_profile}

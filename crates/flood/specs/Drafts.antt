@@ -1,6 +1,6 @@
 -- The drafts of an event, one for each interface.
 use Rattle.std.specs.Prelude.{ℕ, ◌+◌, List, [], ◌∷◌}
-use Rattle.flood_laws.specs.adjacency.Drafts.{Drafted}
+use Rattle.invariants.specs.adjacency.Drafts.{Drafted}
 use Rattle.event_rules.specs.received.Links.{Link}
 use Rattle.event_rules.specs.received.AreaStates.{Send}
 use Rattle.router.specs.Drafts.{IsDraftAt}

@@ -1,6 +1,6 @@
 -- Links at the start.
-use Rattle.flood_laws.specs.adjacency.Drafts.{nothing_drafted}
-use Rattle.flood_laws.specs.adjacency.declared.interface.Interface.{Interface}
+use Rattle.invariants.specs.adjacency.Drafts.{nothing_drafted}
+use Rattle.invariants.specs.adjacency.declared.interface.Interface.{Interface}
 use Rattle.event_rules.specs.Routers.{fresh_link}
 use Rattle.area_routes.specs.flooding.Kept.{KeptLink}
 

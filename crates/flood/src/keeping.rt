@@ -4,7 +4,7 @@ ghost use Rattle.area_routes.specs.Kept.{AreKept, KeepsWalkUnlessChanged};
 ghost use Rattle.event_rules.specs.received.Links.{Link as LinkOfArea};
 ghost use Rattle.event_rules.specs.received.AreaStates.{Send};
 ghost use Rattle.event_rules.specs.Packing.{outs_of};
-ghost use Rattle.flood_laws.specs.Keeping.{AreTexts};
+ghost use Rattle.invariants.specs.Keeping.{AreTexts};
 ghost use Rattle.flood.specs.Drafts.{AreDrafts};
 ghost use Rattle.flood.specs.Occurrences.{is_install, occurrence_of};
 ghost use Rattle.flood.specs.Offers.{AreKeptNow};

@@ -1,5 +1,5 @@
 //! A law about routers joined by links, the contract of a function with an empty body.
-ghost use Rattle.flood_laws.specs.Worlds.{AcknowledgedWasReceived};
+ghost use Rattle.invariants.specs.Worlds.{AcknowledgedWasReceived};
 
 /// In every history of routers whose steps keep what `Keeps` says, whatever packets are lost,
 /// repeated or late and whichever routers restart: if an entry is removed from a neighbor's

@@ -3,7 +3,7 @@ ghost use Rattle.std.specs.Prelude.{◌≡◌, ◌≤◌, ◌<◌, ◌^◌, ℕ,
 ghost use Rattle.event_rules.specs.Refusals.{bad_packet};
 ghost use Rattle.event_rules.specs.Routers.{Occurrence};
 ghost use Rattle.packet.specs.Reading.{fault_of};
-ghost use Rattle.flood_laws.specs.Keeping.{AnnouncesAddress};
+ghost use Rattle.invariants.specs.Keeping.{AnnouncesAddress};
 ghost use Rattle.flood.specs.Early.{early_refusal_of};
 ghost use Rattle.flood.specs.Occurrences.{occurrence_of, words_of};
 ghost use Rattle.flood.specs.Parts.{HasInterface, IsPartOf, RefusesAs, late_refusal};

@@ -6,7 +6,7 @@ ghost use Rattle.event_rules.specs.Events.{Happens, initial};
 ghost use Rattle.event_rules.specs.Originations.{external_key};
 ghost use Rattle.event_rules.specs.Refusals.{RefusesByRules};
 ghost use Rattle.event_rules.specs.Routers.{in_profile, shown_at};
-ghost use Rattle.flood_laws.specs.Keeping.{KeepsWhatIsKnown};
+ghost use Rattle.invariants.specs.Keeping.{KeepsWhatIsKnown};
 ghost use Rattle.flood.specs.Early.{early_refusal};
 ghost use Rattle.flood.specs.Offers.{AreCandidatesNow, IsOffered, IsStaleNow, IsTableNow};
 ghost use Rattle.flood.specs.Occurrences.{occurrence_of};
@@ -42,16 +42,16 @@ impl Model for Core {
     ghost use Rattle.std.specs.Coded.{codes};
     ghost use Rattle.std.specs.FinMap as finite;
     ghost use Rattle.words.specs.declared.route.External.{External};
-    ghost use Rattle.flood_laws.specs.lsdb.Copies.{DatabaseCopy};
-    ghost use Rattle.flood_laws.specs.lsdb.Keys.{coded_key, key_cmp};
-    ghost use Rattle.flood_laws.specs.adjacency.Codes.{coded_headers, coded_keys, coded_lists};
+    ghost use Rattle.invariants.specs.lsdb.Copies.{DatabaseCopy};
+    ghost use Rattle.invariants.specs.lsdb.Keys.{coded_key, key_cmp};
+    ghost use Rattle.invariants.specs.adjacency.Codes.{coded_headers, coded_keys, coded_lists};
     ghost use Rattle.event_rules.specs.RoomLaws.{IsRoomy};
     ghost use Rattle.event_rules.specs.Refusals.{exceeds};
     ghost use Rattle.event_rules.specs.Routers.{Router as Shown};
     ghost use Rattle.area_routes.specs.flooding.Drafted.{nothing_at};
     ghost use Rattle.flood.specs.Offers.{AreKeptNow};
-    ghost use Rattle.flood_laws.specs.InOrder.{IsConsistent};
-    ghost use Rattle.flood_laws.specs.Keeping.{HasNumbersInRange};
+    ghost use Rattle.invariants.specs.InOrder.{IsConsistent};
+    ghost use Rattle.invariants.specs.Keeping.{HasNumbersInRange};
 
     ghost Value = { Shown };
 

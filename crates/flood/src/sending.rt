@@ -3,7 +3,7 @@ ghost use Rattle.std.specs.Prelude.{◌≡◌, ◌≤◌, List, IfOk, OnOk, leng
 ghost use Rattle.event_rules.specs.received.Links.{Link as LinkOfArea};
 ghost use Rattle.event_rules.specs.received.AreaStates.{Send};
 ghost use Rattle.event_rules.specs.Packing.{outs_of};
-ghost use Rattle.flood_laws.specs.Keeping.{AreTexts};
+ghost use Rattle.invariants.specs.Keeping.{AreTexts};
 ghost use Rattle.flood.specs.Drafts.{AreDrafts};
 
 use adjacency::Draft;

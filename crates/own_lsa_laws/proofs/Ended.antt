@@ -56,8 +56,8 @@ use Rattle.event_rules.specs.Ticks.{acknowledgments_on, after_tick, again, send_
 use Rattle.event_rules.specs.Ticks.{expire_timers, hello_sent_on, send_all_again}
 use Rattle.event_rules.specs.Ticks.{with_hello_sent, without_acknowledgments}
 use Rattle.event_rules.proofs.Walk.{outcome}
-use Rattle.flood_laws.proofs.Limits.{one_less, one_more, tied_key}
-use Rattle.flood_laws.proofs.Retransmitted.{marks}
+use Rattle.invariants.proofs.Limits.{one_less, one_more, tied_key}
+use Rattle.invariants.proofs.Retransmitted.{marks}
 use Rattle.own_lsa_laws.proofs.Agreeing.{never_differs, once, text_of_same, undiffering}
 use Rattle.own_lsa_laws.proofs.Faces.{StaysFaced, again_so, asks_so, body_faces, each_faces, faces}
 use Rattle.own_lsa_laws.proofs.Faces.{mapped_faces, same_faces}

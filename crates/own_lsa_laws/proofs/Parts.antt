@@ -39,8 +39,8 @@ use Rattle.event_rules.specs.Originations.{router_body, postpone, router_key, wa
 use Rattle.event_rules.specs.Packets.{after_lsa, after_lsas, after_self_originated, after_parsed}
 use Rattle.event_rules.specs.Packets.{case_in}
 use Rattle.event_rules.specs.Routers.{Router}
-use Rattle.flood_laws.proofs.Limits.{AreExternal, new_key, wanted_type}
-use Rattle.flood_laws.proofs.Retransmitted.{marks}
+use Rattle.invariants.proofs.Limits.{AreExternal, new_key, wanted_type}
+use Rattle.invariants.proofs.Retransmitted.{marks}
 use Rattle.own_lsa_laws.proofs.Faces.{StaysFaced, body_faces, case_faces, flush_faces, same_faces}
 use Rattle.own_lsa_laws.proofs.Standing.{Fits, Standing, Terms, Wants, aged_at, all_so, closed_at}
 use Rattle.own_lsa_laws.proofs.Standing.{flushed_age, is_wanted_of, marked, put_at, recast}

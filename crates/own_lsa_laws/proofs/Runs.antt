@@ -27,7 +27,7 @@ use Rattle.event_rules.specs.Originations.{originate_or_postpone, postpone, rout
 use Rattle.event_rules.specs.Originations.{wanted_body}
 use Rattle.event_rules.specs.Routers.{Occurrence, Router, unannounced_router}
 use Rattle.event_rules.specs.Ticks.{after_tick}
-use Rattle.flood_laws.proofs.Retransmitted.{retransmissions_are_of_the_database}
+use Rattle.invariants.proofs.Retransmitted.{retransmissions_are_of_the_database}
 use Rattle.event_rules.specs.Clocks.{ClockRunsOn}
 use Rattle.own_lsa_laws.specs.OwnCopies.{EndsWithTick, IsHeldBack, IsSelfOriginated}
 use Rattle.own_lsa_laws.specs.OwnCopies.{IsToBeReplaced, NobodySpeaksForThisRouter}

@@ -25,9 +25,9 @@ use Rattle.received.proofs.Marks.{changed_by}
 use Rattle.event_rules.specs.Originations.{announced_body, external_body, router_body, router_key}
 use Rattle.event_rules.specs.Originations.{wanted_body}
 use Rattle.event_rules.specs.Routers.{Router}
-use Rattle.flood_laws.proofs.Limits.{tied_key, body_or}
-use Rattle.flood_laws.proofs.Retransmitted.{marks}
-use Rattle.flood_laws.proofs.Leaving.{flushed_copy}
+use Rattle.invariants.proofs.Limits.{tied_key, body_or}
+use Rattle.invariants.proofs.Retransmitted.{marks}
+use Rattle.invariants.proofs.Leaving.{flushed_copy}
 
 pub same_itself : (key : Key) → same_key key key ≡ true
 same_itself key = ap is_eq (tied_itself keys_total key)

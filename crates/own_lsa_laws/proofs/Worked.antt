@@ -15,7 +15,7 @@ use Rattle.event_rules.specs.EventState.{EventState, on_area}
 use Rattle.event_rules.specs.Originations.{announced_body, flush, flush_copy, router_body}
 use Rattle.event_rules.specs.Originations.{router_key, wanted_body}
 use Rattle.event_rules.specs.Routers.{Router}
-use Rattle.flood_laws.proofs.Limits.{tied_key, body_or}
+use Rattle.invariants.proofs.Limits.{tied_key, body_or}
 use Rattle.own_lsa_laws.specs.OwnCopies.{IsHeldBack, IsSelfOriginated, IsToBeReplaced}
 use Rattle.own_lsa_laws.specs.OwnCopies.{HasWantedBody}
 use Rattle.own_lsa_laws.specs.OwnCopies.{SpeaksForItself, SpeaksForItselfAfterTick}

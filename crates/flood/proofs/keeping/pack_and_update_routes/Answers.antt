@@ -1,6 +1,6 @@
 use Rattle.std.proofs.Common.{sym, ap, ◌∙◌}
-use Rattle.flood_laws.specs.lsdb.Kept.{RouterDatabase}
-use Rattle.flood_laws.specs.lsdb.Limits.{exceeds as database_exceeds}
+use Rattle.invariants.specs.lsdb.Kept.{RouterDatabase}
+use Rattle.invariants.specs.lsdb.Limits.{exceeds as database_exceeds}
 use Rattle.area_routes.specs.flooding.Kept.{RouterArea}
 use Rattle.flood.proofs.keeping.pack_and_update_routes.Goals as goal
 

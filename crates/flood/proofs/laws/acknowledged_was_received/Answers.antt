@@ -1,4 +1,4 @@
-use Rattle.flood_laws.proofs.Worlds.{acknowledged_was_received as was_received}
+use Rattle.invariants.proofs.Worlds.{acknowledged_was_received as was_received}
 use Rattle.flood.proofs.laws.acknowledged_was_received.Goals as goal
 
 pub returns : goal.returns

@@ -1,7 +1,7 @@
 use Rattle.std.proofs.Common.{◌≡◌, ◌≤◌, None, sym, ap, ◌∙◌, subst, arith}
 use Rattle.area_routes.specs.Kept.{AreKept, KeepsWalkUnlessChanged}
 use Rattle.event_rules.specs.Routers.{Router}
-use Rattle.flood_laws.specs.Keeping.{AreTexts}
+use Rattle.invariants.specs.Keeping.{AreTexts}
 use Rattle.router.specs.Full.{full_routers}
 use Rattle.router.specs.Kept.{KeptRouter}
 use Rattle.router.specs.Making.{interfaces_of}

@@ -5,8 +5,8 @@ use Rattle.area_routes.specs.flooding.Drafted.{nothing_at}
 use Rattle.event_rules.specs.Routers.{Router}
 use Rattle.router.specs.Kept.{KeptRouter}
 use Rattle.flood.proofs.Kept.{begun}
-use Rattle.flood_laws.specs.InOrder.{IsConsistent}
-use Rattle.flood_laws.specs.Keeping.{HasNumbersInRange}
+use Rattle.invariants.specs.InOrder.{IsConsistent}
+use Rattle.invariants.specs.Keeping.{HasNumbersInRange}
 use Rattle.flood.proofs.router_core.Core.copy.Goals as goal
 
 pub invariant_of-result : goal.invariant_of-result

@@ -5,11 +5,11 @@ use Rattle.event_rules.specs.RoomLaws.{IsRoomy}
 use Rattle.event_rules.proofs.Roomy.{every_packet_has_room}
 use Rattle.event_rules.specs.Refusals.{exceeds}
 use Rattle.event_rules.specs.Routers.{in_profile}
-use Rattle.flood_laws.specs.InOrder.{IsConsistent}
-use Rattle.flood_laws.specs.Keeping.{HasNumbersInRange}
-use Rattle.flood_laws.proofs.Keeping.{instances_stay_in_range}
-use Rattle.flood_laws.proofs.Acknowledged.{routers_stay_in_order}
-use Rattle.flood_laws.proofs.Limits.{others_stay_within_limits}
+use Rattle.invariants.specs.InOrder.{IsConsistent}
+use Rattle.invariants.specs.Keeping.{HasNumbersInRange}
+use Rattle.invariants.proofs.Keeping.{instances_stay_in_range}
+use Rattle.invariants.proofs.Acknowledged.{routers_stay_in_order}
+use Rattle.invariants.proofs.Limits.{others_stay_within_limits}
 use Rattle.area_routes.specs.flooding.Drafted.{nothing_at}
 use Rattle.area_routes.specs.flooding.Kept.{RouterArea}
 use Rattle.router.specs.Kept.{KeptRouter}

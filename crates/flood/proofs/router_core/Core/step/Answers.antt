@@ -4,8 +4,8 @@ use Rattle.event_rules.specs.Refusals.{exceeds}
 use Rattle.event_rules.specs.Routers.{Router}
 use Rattle.area_routes.specs.flooding.Drafted.{nothing_at}
 use Rattle.router.specs.Kept.{KeptRouter}
-use Rattle.flood_laws.specs.InOrder.{IsConsistent}
-use Rattle.flood_laws.specs.Keeping.{HasNumbersInRange}
+use Rattle.invariants.specs.InOrder.{IsConsistent}
+use Rattle.invariants.specs.Keeping.{HasNumbersInRange}
 use Rattle.flood.specs.Occurrences.{occurrence_of}
 use Rattle.flood.specs.Offers.{AreKeptNow}
 use Rattle.flood.proofs.Happening.{stays_roomy}

@@ -1,5 +1,0 @@
-use Rattle.flood_laws.proofs.Retransmitted.{retransmissions_are_of_the_database as all_of_it}
-use Rattle.flood_laws.proofs.retransmissions_are_of_the_database.Goals as goal
-
-pub returns : goal.returns
-returns c = all_of_it
