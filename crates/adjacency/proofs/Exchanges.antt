@@ -5,10 +5,10 @@ use Rattle.std.proofs.Common.{◌∙◌}
 use Rattle.std.specs.FinMap as finite
 use Rattle.std.specs.List.{fold}
 use Rattle.words.specs.declared.key.Key.{Key}
-use Rattle.adjacency.specs.lsdb.Copies.{Database}
-use Rattle.adjacency.specs.lsdb.Headers.{Header}
-use Rattle.adjacency.specs.lsdb.Instances.{ListEntry, listed_header_now}
-use Rattle.adjacency.specs.lsdb.Keys.{ByKey}
+use Rattle.lsdb.specs.Copies.{Database}
+use Rattle.lsdb.specs.Headers.{Header}
+use Rattle.lsdb.specs.Instances.{ListEntry, listed_header_now}
+use Rattle.lsdb.specs.Keys.{ByKey}
 use Rattle.packet.specs.declared.model.Description.{Description}
 use Rattle.adjacency.specs.declared.standing.Standing.{Standing}
 use Rattle.adjacency.specs.declared.state.NeighborState.{NeighborState}

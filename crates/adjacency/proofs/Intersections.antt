@@ -12,8 +12,8 @@ use Rattle.std.specs.FinMap.Entries as entries
 use Rattle.std.specs.FinSet as set
 use Rattle.words.specs.declared.key.Key.{Key}
 use Rattle.keyed_map.specs.Slots.{keys_where}
-use Rattle.adjacency.specs.lsdb.Keys.{ByKey, key_cmp}
-use Rattle.adjacency.proofs.lsdb.Keys.{keys_exact, keys_total}
+use Rattle.lsdb.specs.Keys.{ByKey, key_cmp}
+use Rattle.lsdb.proofs.Keys.{keys_exact, keys_total}
 use Rattle.adjacency.specs.Views.{keys_of}
 use Rattle.adjacency.proofs.Neighbors.{contains_key_of}
 

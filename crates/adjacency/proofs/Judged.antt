@@ -1,7 +1,7 @@
 -- The verdict on a Database Description by the neighbor's fields.
 use Rattle.std.proofs.Common.{◌≡◌, ℕ, Bool, true, false, ◌&&◌, Option, refl, sym, ap}
-use Rattle.adjacency.specs.lsdb.Instances.{ListEntry}
-use Rattle.adjacency.specs.lsdb.Keys.{ByKey}
+use Rattle.lsdb.specs.Instances.{ListEntry}
+use Rattle.lsdb.specs.Keys.{ByKey}
 use Rattle.packet.specs.declared.model.Description.{Description}
 use Rattle.adjacency.specs.declared.standing.Standing.{Standing}
 use Rattle.adjacency.specs.declared.state.NeighborState.{NeighborState}

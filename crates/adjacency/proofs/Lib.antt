@@ -15,5 +15,3 @@ pub mod Exchanges
 pub mod Judged
 pub mod Intersections
 pub mod Doing
--- names from the crates below that crates above use
-pub use Rattle.lsdb.proofs as lsdb

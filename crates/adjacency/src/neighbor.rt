@@ -2,7 +2,7 @@
 ghost use Rattle.std.specs.Prelude.{◌≡◌, not, ◌&&◌, if◌then◌else◌, IfOk};
 ghost use Rattle.std.specs.Prelude.{option_copied};
 ghost use Rattle.lsa.specs.Headers.{key_of};
-ghost use Rattle.adjacency.specs.lsdb.Copies.{lsa_now};
+ghost use Rattle.lsdb.specs.Copies.{lsa_now};
 ghost use Rattle.adjacency.specs.Adjacencies.{next_dd_sequence_start, initial_description};
 ghost use Rattle.adjacency.specs.Adjacencies.{enter_exstart};
 ghost use Rattle.adjacency.specs.Exchanges.{standing_of};

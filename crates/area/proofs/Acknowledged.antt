@@ -3,8 +3,8 @@ use Rattle.std.proofs.Common.{◌≡◌, ℕ, zero, suc, List, [], ◌∷◌, ma
 use Rattle.std.specs.List.{fold}
 use Rattle.std.specs.FinMap as finite
 use Rattle.words.specs.declared.key.Key.{Key}
-use Rattle.adjacency.specs.lsdb.Headers.{Header}
-use Rattle.adjacency.specs.lsdb.Keys.{ByKey}
+use Rattle.lsdb.specs.Headers.{Header}
+use Rattle.lsdb.specs.Keys.{ByKey}
 use Rattle.adjacency.specs.Contents.{Acknowledges, Content}
 use Rattle.adjacency.specs.Drafts.{Drafted, drafting}
 use Rattle.adjacency.proofs.Lists.{left_none}

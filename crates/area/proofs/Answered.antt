@@ -4,7 +4,7 @@ use Rattle.std.proofs.Common.{refl, sym, ap, ◌∙◌}
 use mathlib.Core.Bool.{false≢true}
 use Rattle.std.specs.List.{list_all}
 use Rattle.words.specs.declared.key.Key.{Key}
-use Rattle.adjacency.specs.lsdb.Copies.{Database}
+use Rattle.lsdb.specs.Copies.{Database}
 use Rattle.adjacency.specs.Adjacencies.{enter_exstart, mismatch_step}
 use Rattle.adjacency.specs.Contents.{Step, Updates, no_sends, sent_on, step_on}
 use Rattle.adjacency.specs.Neighbors.{Neighbor, is_exchange_or_later}

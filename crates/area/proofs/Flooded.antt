@@ -3,8 +3,8 @@ use Rattle.std.proofs.Common.{◌≡◌, ℕ, ◌+◌, Bool, true, false, cond, 
 use Rattle.std.proofs.Common.{map, refl, sym, ap, ◌∙◌}
 use Rattle.std.specs.Prelude.{Option, None, Some}
 use Rattle.std.specs.List.{fold}
-use Rattle.adjacency.specs.lsdb.Copies.{Database, mark_sent}
-use Rattle.adjacency.specs.lsdb.Headers.{Lsa, lsa_key}
+use Rattle.lsdb.specs.Copies.{Database, mark_sent}
+use Rattle.lsdb.specs.Headers.{Lsa, lsa_key}
 use Rattle.adjacency.specs.Contents.{Content, Step, Updates, no_sends}
 use Rattle.adjacency.specs.Contents as neighbor
 use Rattle.adjacency.specs.Drafts.{Drafted, drafting}

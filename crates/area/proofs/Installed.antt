@@ -6,10 +6,10 @@ use Rattle.std.specs.declared.cmp.Ordering.{Ordering}
 use Rattle.std.specs.Cmp.{tied_itself}
 use Rattle.std.specs.FinMap as finite
 use Rattle.words.specs.declared.key.Key.{Key}
-use Rattle.adjacency.specs.lsdb.Copies.{Database, DatabaseCopy, age_prematurely, lsa_now, put_copy}
-use Rattle.adjacency.specs.lsdb.Headers.{Lsa, lsa_with_age, lsa_key}
-use Rattle.adjacency.proofs.lsdb.Copies.{ages, ages_none}
-use Rattle.adjacency.proofs.lsdb.Keys.{keys_total}
+use Rattle.lsdb.specs.Copies.{Database, DatabaseCopy, age_prematurely, lsa_now, put_copy}
+use Rattle.lsdb.specs.Headers.{Lsa, lsa_with_age, lsa_key}
+use Rattle.lsdb.proofs.Copies.{ages, ages_none}
+use Rattle.lsdb.proofs.Keys.{keys_total}
 use Rattle.received.specs.Flooding.{flood}
 use Rattle.received.specs.Links.{Area}
 use Rattle.area.specs.Links.{age_outcome, age_copy, flooded_copy, flooded_key, with_no_sends}

@@ -4,7 +4,7 @@ use Rattle.std.proofs.Common.{◌≡◌, ℕ, List, ◌++◌, length, map, take,
 use Rattle.std.proofs.Common.{◌∙◌}
 use Rattle.std.proofs.lemmas.List.{length-map, take_at}
 use Rattle.keyed_map.proofs.Helds.{on_ok}
-use Rattle.adjacency.specs.lsdb.Kept.{RouterDatabase}
+use Rattle.lsdb.specs.Kept.{RouterDatabase}
 use Rattle.received.specs.Links.{Link}
 use Rattle.received.specs.AreaStates.{Send}
 use Rattle.area.specs.Doing.{AreaDoes, LinksDo}

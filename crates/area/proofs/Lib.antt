@@ -22,7 +22,3 @@ pub mod Shown
 pub mod Taken
 pub mod Marked
 pub mod AnyLink
--- names from the crates below that crates above use
-pub use Rattle.adjacency.proofs as adjacency
-pub use Rattle.adjacency.proofs.lsdb
-pub use Rattle.received.proofs as received

@@ -4,7 +4,7 @@ use Rattle.std.proofs.Common.{get_or, refl, sym, ap, ◌∙◌, arith}
 use Rattle.std.specs.List.{fold}
 use Rattle.std.specs.Prelude.{Option, None, Some}
 use Rattle.words.specs.declared.key.Key.{Key}
-use Rattle.adjacency.specs.lsdb.Copies.{Database}
+use Rattle.lsdb.specs.Copies.{Database}
 use Rattle.adjacency.specs.Adjacencies.{enter_exstart, mismatch_step}
 use Rattle.adjacency.specs.Contents as neighbor
 use Rattle.adjacency.specs.Contents.{no_sends}

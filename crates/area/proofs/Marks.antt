@@ -8,11 +8,11 @@ use Rattle.std.specs.declared.cmp.Ordering.{Ordering}
 use Rattle.std.specs.Cmp.{tied_itself}
 use Rattle.std.specs.FinMap as finite
 use Rattle.words.specs.declared.key.Key.{Key}
-use Rattle.adjacency.specs.lsdb.Copies.{Database, DatabaseCopy, mark_sent}
-use Rattle.adjacency.specs.lsdb.Headers.{Lsa, lsa_key}
-use Rattle.adjacency.specs.lsdb.Keys.{key_cmp}
-use Rattle.adjacency.proofs.lsdb.Keys.{keys_exact, keys_total}
-use Rattle.adjacency.proofs.lsdb.Copies.{marks, marks_none}
+use Rattle.lsdb.specs.Copies.{Database, DatabaseCopy, mark_sent}
+use Rattle.lsdb.specs.Headers.{Lsa, lsa_key}
+use Rattle.lsdb.specs.Keys.{key_cmp}
+use Rattle.lsdb.proofs.Keys.{keys_exact, keys_total}
+use Rattle.lsdb.proofs.Copies.{marks, marks_none}
 use Rattle.adjacency.specs.Contents.{Content, Updates}
 use Rattle.received.specs.Links.{Link}
 use Rattle.received.specs.AreaStates.{Send, marked_database, sends_at}

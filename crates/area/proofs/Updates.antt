@@ -2,8 +2,8 @@
 use Rattle.std.proofs.Common.{◌≡◌, ℕ, zero, suc, ◌+◌, ◌<◌, ◌≤◌, List, [], ◌∷◌, ◌++◌, drop, length}
 use Rattle.std.proofs.Common.{map, get_or, refl, sym, ap, ◌∙◌, arith, append_assoc}
 use Rattle.std.specs.Prelude.{Some}
-use Rattle.adjacency.specs.lsdb.Copies.{Database, mark_sent}
-use Rattle.adjacency.specs.lsdb.Headers.{lsa_key}
+use Rattle.lsdb.specs.Copies.{Database, mark_sent}
+use Rattle.lsdb.specs.Headers.{lsa_key}
 use Rattle.adjacency.specs.Contents.{Acknowledges, Content, Describes, Requests, SendsHello}
 use Rattle.adjacency.specs.Contents.{Updates}
 use Rattle.adjacency.specs.Drafts.{Drafted, adds, drafting, update_of}

@@ -4,9 +4,9 @@ use Rattle.std.specs.FinMap as finite
 use Rattle.words.specs.Numbers.{InterfaceNumber, Moment}
 use Rattle.words.specs.declared.key.Key.{Key}
 use Rattle.words.specs.Constants.{max_age}
-use Rattle.adjacency.specs.lsdb.Copies.{Database, DatabaseCopy, age_prematurely, has_just_aged_out}
-use Rattle.adjacency.specs.lsdb.Copies.{install_originated, lsa_now}
-use Rattle.adjacency.specs.lsdb.Headers.{Lsa, lsa_with_age}
+use Rattle.lsdb.specs.Copies.{Database, DatabaseCopy, age_prematurely, has_just_aged_out}
+use Rattle.lsdb.specs.Copies.{install_originated, lsa_now}
+use Rattle.lsdb.specs.Headers.{Lsa, lsa_with_age}
 use Rattle.adjacency.specs.Contents.{Content, Step, sent_on, step_on}
 use Rattle.adjacency.specs.Drafts.{Drafted}
 use Rattle.adjacency.specs.Neighbors.{Neighbor}

@@ -3,7 +3,7 @@ use Rattle.std.specs.Prelude.{ℕ, List, [], ◌∷◌, ◌++◌, drop, length, 
 use Rattle.std.specs.List.{fold}
 use Rattle.words.specs.Numbers.{InterfaceNumber, Moment}
 use Rattle.words.specs.declared.key.Key.{Key}
-use Rattle.adjacency.specs.lsdb.Copies.{Database, mark_sent}
+use Rattle.lsdb.specs.Copies.{Database, mark_sent}
 use Rattle.adjacency.specs.Contents.{Content, sent_on, step_on}
 use Rattle.adjacency.specs.Drafts.{Drafted}
 use Rattle.adjacency.specs.Retransmissions.{send_again}

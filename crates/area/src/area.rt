@@ -30,8 +30,8 @@ impl Model for Area {
     ghost use Rattle.std.specs.Prelude.{map};
     ghost use Rattle.std.specs.Coded.{codes};
     ghost use Rattle.std.specs.FinMap as finite;
-    ghost use Rattle.adjacency.specs.lsdb.Copies.{DatabaseCopy};
-    ghost use Rattle.adjacency.specs.lsdb.Keys.{coded_key, key_cmp};
+    ghost use Rattle.lsdb.specs.Copies.{DatabaseCopy};
+    ghost use Rattle.lsdb.specs.Keys.{coded_key, key_cmp};
     ghost use Rattle.adjacency.specs.Codes.{coded_headers, coded_keys, coded_lists};
     ghost use Rattle.area.specs.Kept.{RouterArea, coded_area};
 

@@ -1,9 +1,9 @@
 //! The case of an LSA in a received Link State Update (RFC 2328, section 13).
 ghost use Rattle.std.specs.Prelude.{◌≡◌, ◌&&◌, not, None, Option};
 ghost use Rattle.words.specs.Numbers.{Moment};
-ghost use Rattle.adjacency.specs.lsdb.Copies.{in_this_second, received_just_now, newer_than_copy};
-ghost use Rattle.adjacency.specs.lsdb.Copies.{same_as_copy, sent_just_now};
-ghost use Rattle.adjacency.specs.lsdb.Order.{is_max_age};
+ghost use Rattle.lsdb.specs.Copies.{in_this_second, received_just_now, newer_than_copy};
+ghost use Rattle.lsdb.specs.Copies.{same_as_copy, sent_just_now};
+ghost use Rattle.lsdb.specs.Order.{is_max_age};
 ghost use Rattle.adjacency.specs.Neighbors.{Neighbor};
 ghost use Rattle.received.specs.Cases.{Case as Row, case_of_readable, case_tests, first_case};
 ghost use Rattle.received.specs.Cases.{is_wrapping};

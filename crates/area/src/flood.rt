@@ -1,7 +1,7 @@
 //! Flooding over the links of an area.
 ghost use Rattle.std.specs.Prelude.{◌≡◌, ◌≤◌, ◌||◌, IfOk, None, length, map};
 ghost use Rattle.words.specs.Constants.{max_age};
-ghost use Rattle.adjacency.specs.lsdb.Copies.{has_just_aged_out, lsa_now};
+ghost use Rattle.lsdb.specs.Copies.{has_just_aged_out, lsa_now};
 ghost use Rattle.adjacency.specs.Floods.{is_any};
 ghost use Rattle.received.specs.Flooding.{flood_to, is_incoming};
 ghost use Rattle.received.specs.AreaStates.{stepped_links, stepping_sends};

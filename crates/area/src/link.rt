@@ -1,7 +1,7 @@
 //! Interfaces with their state.
 ghost use Rattle.std.specs.Prelude.{◌≡◌, ◌∷◌, [], IfOk};
 ghost use Rattle.lsa.specs.Headers.{key_of};
-ghost use Rattle.adjacency.specs.lsdb.Copies.{lsa_now};
+ghost use Rattle.lsdb.specs.Copies.{lsa_now};
 ghost use Rattle.adjacency.specs.Adjacencies.{mismatch_step};
 ghost use Rattle.adjacency.specs.Contents.{Updates, no_sends, sent_on};
 ghost use Rattle.adjacency.specs.Drafts.{nothing_drafted};

@@ -1,7 +1,7 @@
 //! What is asked of all links, and what the cases of a received LSA do to links.
 ghost use Rattle.std.specs.Prelude.{◌≡◌, ◌≤◌, [], ◌∷◌, length, map};
 ghost use Rattle.lsa.specs.Headers.{key_of};
-ghost use Rattle.adjacency.specs.lsdb.Copies.{lsa_now};
+ghost use Rattle.lsdb.specs.Copies.{lsa_now};
 ghost use Rattle.adjacency.specs.Adjacencies.{mismatch_step};
 ghost use Rattle.adjacency.specs.Contents.{Acknowledges, Updates, no_sends};
 ghost use Rattle.adjacency.specs.Retransmissions.{remove_retransmission};

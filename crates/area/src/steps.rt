@@ -2,7 +2,7 @@
 ghost use Rattle.std.specs.Prelude.{◌≡◌, ◌≤◌, IfOk, drop, length, map};
 ghost use Rattle.received.specs.Links.{change_link, taken_down};
 ghost use Rattle.received.specs.AreaStates.{sends_of};
-ghost use Rattle.adjacency.specs.lsdb.Doing.{DatabaseDoes};
+ghost use Rattle.lsdb.specs.Doing.{DatabaseDoes};
 ghost use Rattle.area.specs.Doing.{AreaDoes, LinksDo};
 ghost use Rattle.area.specs.Links.{draft_of, with_no_sends, without_acknowledged};
 ghost use Rattle.area.specs.Steps.{all_links, key_of_update, keys_behind, mark_each, one_link};
@@ -28,7 +28,7 @@ pub trait LinkChange {
 /// A step of a link that may read the database, and may send.
 pub trait LinkStep {
     ghost use Rattle.std.specs.Prelude.{List};
-    ghost use Rattle.adjacency.specs.lsdb.Copies.{Database};
+    ghost use Rattle.lsdb.specs.Copies.{Database};
     ghost use Rattle.adjacency.specs.Contents.{Content};
     ghost use Rattle.received.specs.Links.{Link as Shown};
     ghost use Rattle.area.specs.Doing.{LinkDoes};

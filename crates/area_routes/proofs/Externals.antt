@@ -4,7 +4,7 @@ use Rattle.std.proofs.Common.{subst}
 use Rattle.std.specs.Prelude.{IfSome, IsTrue}
 use Rattle.std.specs.Global.{Vec}
 use Rattle.words.specs.Numbers.{Moment, RouterNumber}
-use Rattle.area.specs.received.Links.{Area}
+use Rattle.received.specs.Links.{Area}
 use Rattle.candidates.specs.Externals.{AreExternals}
 use Rattle.candidates.specs.declared.externals.ExternalAdvertisement.{ExternalAdvertisement}
 use Rattle.routes.specs.Contents.{Contents}

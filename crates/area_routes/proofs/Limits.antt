@@ -1,8 +1,8 @@
 -- A database within its limits has at most 16,384 LSAs.
 use Rattle.std.proofs.Common.{◌≡◌, ℕ, ◌≤◌, Bool, true, false, ◌||◌, ltb-false, refl}
 use Rattle.std.specs.FinMap as finite
-use Rattle.routes.specs.lsdb.Copies.{Database}
-use Rattle.routes.specs.lsdb.Limits.{exceeds}
+use Rattle.lsdb.specs.Copies.{Database}
+use Rattle.lsdb.specs.Limits.{exceeds}
 
 neither : (a b : Bool) → (a || b) ≡ false → a ≡ false
 neither true b e = e

@@ -3,7 +3,7 @@ use Rattle.std.proofs.Common.{◌≡◌, ℕ, ◌+◌, ◌<◌, List, [], ◌∷
 use Rattle.std.proofs.Common.{refl, sym, ◌∙◌, ap}
 use Rattle.std.proofs.lemmas.List.{take_more}
 use Rattle.area.specs.Kept.{KeptLink}
-use Rattle.area.specs.received.Links.{Link}
+use Rattle.received.specs.Links.{Link}
 use Rattle.area.specs.Links.{present}
 use Rattle.routes.specs.declared.root.Root.{Root}
 use Rattle.area_routes.specs.Offers.{root_by}

@@ -2,7 +2,7 @@
 use Rattle.std.proofs.Common.{◌≡◌, true, false, sym, ◌∙◌}
 use Rattle.std.specs.Prelude.{None, Option, IfSome}
 use Rattle.words.specs.Numbers.{Moment, RouterNumber}
-use Rattle.area.specs.received.Links.{Area}
+use Rattle.received.specs.Links.{Area}
 use Rattle.area_routes.specs.Kept.{AreRoutesOf, KeptRoutes}
 
 pub unwalked : (kept : KeptRoutes) → kept.behind ≡ true → kept.graph ≡ None

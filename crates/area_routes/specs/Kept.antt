@@ -6,7 +6,7 @@ use Rattle.std.specs.Global.{Vec}
 use Rattle.words.specs.Numbers.{Moment, RouterNumber}
 use Rattle.words.specs.declared.key.Key.{Key}
 use Rattle.words.specs.declared.route.Route.{Route}
-use Rattle.area.specs.received.Links.{Area}
+use Rattle.received.specs.Links.{Area}
 use Rattle.area_routes.specs.Offers.{root_by}
 use Rattle.area_routes.specs.declared.matching.Matching.{Matching}
 use Rattle.area_routes.specs.declared.matching.Matching.TheVariants.{Lacking, OnlyCandidates}

@@ -4,7 +4,7 @@ use Rattle.std.specs.Prelude.{◌≡◌, List, map}
 use Rattle.words.specs.Numbers.{Moment, RouterNumber}
 use Rattle.words.specs.declared.route.Route.{Route}
 use Rattle.words.specs.declared.route.TableRow.{TableRow}
-use Rattle.area.specs.received.Links.{Area, Link}
+use Rattle.received.specs.Links.{Area, Link}
 use Rattle.routes.specs.Candidates.{AreCandidates}
 use Rattle.routes.specs.Contents.{Contents, contents_at}
 use Rattle.routes.specs.Tables.{RouteWords, IsStale, IsTable}

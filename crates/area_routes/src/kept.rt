@@ -17,7 +17,7 @@ ghost use Rattle.kept_routes.specs.Sameness.{HaveSameContents};
 ghost use Rattle.routes.specs.Contents.{contents_at};
 ghost use Rattle.routes.specs.Tables.{RouteWords};
 ghost use Rattle.words.specs.Numbers.{Moment, RouterNumber};
-ghost use Rattle.area.specs.received.Links.{Area as AreaValue};
+ghost use Rattle.received.specs.Links.{Area as AreaValue};
 
 use crate::calculating::{Made, calculated, kept_or};
 use crate::following::followed;

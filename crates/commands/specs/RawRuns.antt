@@ -11,7 +11,7 @@ use Rattle.isa.specs.Spelling as code
 use Rattle.machine.specs.State.{Setting}
 use Rattle.maps.specs.Access.{adds_to}
 use Rattle.maps.specs.Words.{SeatView, SharedWords, fresh}
-use Rattle.interp.specs.Run.{Run}
+use Rattle.word_machine.specs.declared.ending.Run.{Run}
 use Rattle.interp.specs.declared.trap.Trap.{Trap}
 use Rattle.interp.specs.Outcome.{Outcome, trap_number}
 use Rattle.verifier.specs.Refusals.{budget}

@@ -3,7 +3,7 @@ use Rattle.std.specs.Prelude.{◌≡◌, ℕ, List, [], ◌∷◌, ◌++◌, cod
 use Rattle.std.specs.Prelude.{Err, is_err}
 use Rattle.machine.specs.Given.{Given}
 use Rattle.maps.specs.Words.{SeatView, fresh}
-use Rattle.interp.specs.Run.{Run}
+use Rattle.word_machine.specs.declared.ending.Run.{Run}
 use Rattle.interp.specs.declared.trap.Trap.{Trap}
 use Rattle.interp.specs.Outcome.{trap_number}
 use Rattle.interp.specs.ObjectRuns.{RunsObject}

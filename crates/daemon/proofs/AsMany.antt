@@ -4,9 +4,9 @@ use Rattle.std.proofs.Common.{◌∙◌, arith}
 use Rattle.console.specs.declared.configuration.Configured.{Configured}
 use Rattle.console.specs.declared.configuration.ConfiguredInterface.{ConfiguredInterface}
 use Rattle.console.specs.Configurations.{Says}
-use Rattle.worker.specs.event_rules.Events.{initial}
-use Rattle.worker.specs.event_rules.Routers.{Router}
-use Rattle.worker.specs.event_rules.declared.model.Config.{Config}
+use Rattle.event_rules.specs.Events.{initial}
+use Rattle.event_rules.specs.Routers.{Router}
+use Rattle.event_rules.specs.declared.model.Config.{Config}
 use Rattle.worker.specs.declared.sockets.wire.Wire.{Wire}
 use Rattle.worker.specs.Wires.{AreBound, Bound}
 use Rattle.daemon.specs.Statuses.{HasRan, HasRanFor, HasRanOver, IsConfigOf}

@@ -1,11 +1,11 @@
 -- What a worker has done when it brings its port back.
 use Rattle.std.specs.Prelude.{ℕ}
-use Rattle.worker.specs.Askers.{AskerState}
+use Rattle.turns.specs.Askers.{AskerState}
 use Rattle.worker.specs.Lives.{HasLived, HasLivedOn, Hears, Reads, Senses, Shows, Standing}
 use Rattle.worker.specs.Lives.{senses_of, standing}
 use Rattle.worker.specs.Sending.{Gives}
-use Rattle.worker.specs.Turns.{IsOfferedBySome, refuses_from, took_from}
-use Rattle.worker.specs.event_rules.Routers.{Router}
+use Rattle.turns.specs.Turns.{IsOfferedBySome, refuses_from, took_from}
+use Rattle.event_rules.specs.Routers.{Router}
 
 -- what is said of a worker at the port of this number, with such a transport and such a clock, at a
 -- book that began with this router

@@ -1,9 +1,9 @@
 -- The status that the program ends with: if no router runs, and after one ran.
 use Rattle.std.specs.Prelude.{◌≡◌, ◌⊎◌, ℕ, Bool, List, ◌||◌, if◌then◌else◌, length, map}
 use Rattle.std.specs.List.{list_any}
-use Rattle.worker.specs.event_rules.Events.{initial}
-use Rattle.worker.specs.event_rules.Routers.{Router}
-use Rattle.worker.specs.event_rules.declared.model.Config.{Config}
+use Rattle.event_rules.specs.Events.{initial}
+use Rattle.event_rules.specs.Routers.{Router}
+use Rattle.event_rules.specs.declared.model.Config.{Config}
 use Rattle.console.specs.Configurations.{Says}
 use Rattle.console.specs.declared.configuration.Configured.{Configured}
 use Rattle.worker.specs.Ends.{has_failed}

@@ -2,10 +2,10 @@
 use Rattle.std.specs.Prelude.{◌≡◌, ◌⊎◌, ℕ, Bool, true, false, List, [], ◌∷◌}
 use Rattle.std.specs.Prelude.{Option, None, Some, Result, Ok, Err, string_bytes}
 use Rattle.hooks.specs.declared.operation.LoaderOperation.{LoaderOperation}
-use Rattle.worker.specs.Askers.{AskerState, IsLater}
-use Rattle.worker.specs.TurnError.{TurnError}
-use Rattle.worker.specs.Turns.{Offers, Refuses, Took}
-use Rattle.worker.specs.Work.TheVariants.{Tick}
+use Rattle.turns.specs.Askers.{AskerState, IsLater}
+use Rattle.turns.specs.declared.turned.TurnError.{TurnError}
+use Rattle.turns.specs.Turns.{Offers, Refuses, Took}
+use Rattle.turns.specs.declared.work.Work.TheVariants.{Tick}
 use Rattle.operator.specs.Answers.{IsDone, IsMadeUp, IsObeyed, IsRefusedOnce, Sources, change}
 use Rattle.operator.specs.declared.reply.Reply.{Reply}
 use Rattle.operator.specs.declared.reply.Reply.TheVariants as reply

@@ -1,6 +1,6 @@
 //! What the threads of the interfaces do.
 ghost use Rattle.std.specs.Prelude.{◌≡◌, false, true};
-ghost use Rattle.worker.specs.Askers.{IsLater, asker_state};
+ghost use Rattle.turns.specs.Askers.{IsLater, asker_state};
 ghost use Rattle.worker.specs.Ends.{has_failed};
 ghost use Rattle.worker.specs.Lives.{standing};
 ghost use Rattle.daemon.specs.Labors.{HasServed, HasServedOn, senses_at};

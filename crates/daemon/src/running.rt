@@ -5,7 +5,7 @@ ghost use Rattle.worker.specs.Descending.{CountDownTo};
 ghost use Rattle.hooks.specs.Known.{loader_history};
 ghost use Rattle.worker.specs.Ends.{has_failed};
 ghost use Rattle.worker.specs.Wires.{AreBound};
-ghost use Rattle.worker.specs.event_rules.Events.{initial};
+ghost use Rattle.event_rules.specs.Events.{initial};
 ghost use Rattle.worker.specs.Opening.{IsSetUpFor};
 ghost use Rattle.daemon.specs.Refusals.{IsLaterWhy, IsWhy};
 ghost use Rattle.daemon.specs.Statuses.{EndsSo, HasRan, HasRanFor, HasRanOver, IsConfigOf};

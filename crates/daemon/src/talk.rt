@@ -1,8 +1,8 @@
 //! The console: lines in, lines out, at port 0.
 ghost use Rattle.std.specs.Prelude.{◌≡◌, true, IfErr, OnOk};
 ghost use Rattle.hooks.specs.Known.{operations_of};
-ghost use Rattle.worker.specs.Askers.{IsLater, asker_state};
-ghost use Rattle.worker.specs.Turns.{IsListed};
+ghost use Rattle.turns.specs.Askers.{IsLater, asker_state};
+ghost use Rattle.turns.specs.Turns.{IsListed};
 ghost use Rattle.operator.specs.Answers.{IsAnyFile, IsAnyPath, sources};
 ghost use Rattle.operator.specs.Texts.{reply_text};
 ghost use Rattle.operator.specs.declared.reply.Reply.{Reply as Answer};

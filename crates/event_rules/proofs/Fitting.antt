@@ -27,19 +27,19 @@ use Rattle.lsa.specs.Text.{IsRouterId, IsExternalTos, IsLinkTos, IsSummaryTos, r
 use Rattle.lsa.specs.Text.{body_text, external_fields, external_tos_text, link_fields, link_text}
 use Rattle.lsa.specs.Text.{link_tos_text, router_fields, summary_fields, summary_text}
 use Rattle.lsa.specs.Text.{summary_tos_text, text}
-use Rattle.received.specs.lsdb.Copies.{DatabaseCopy}
-use Rattle.received.specs.lsdb.Headers.{Lsa}
-use Rattle.received.specs.lsdb.Keys.{same_key}
+use Rattle.lsdb.specs.Copies.{DatabaseCopy}
+use Rattle.lsdb.specs.Headers.{Lsa}
+use Rattle.lsdb.specs.Keys.{same_key}
 use Rattle.packet.specs.declared.model.PacketBody.{PacketBody}
 use Rattle.packet.specs.declared.model.PacketBody.TheVariants as packets
 use Rattle.packet.specs.declared.model.Packet.{Packet}
 use Rattle.packet.specs.Checksum.{packet_checksum}
 use Rattle.packet.specs.Text as packet_text
 use Rattle.packet.specs.Text.{Open, PacketText}
-use Rattle.received.specs.adjacency.Neighbors.{Neighbor, is_full}
-use Rattle.received.specs.adjacency.declared.interface.Interface.{Interface}
-use Rattle.received.specs.adjacency.Rooms.{Fits}
-use Rattle.received.proofs.adjacency.Kept.{chosen}
+use Rattle.adjacency.specs.Neighbors.{Neighbor, is_full}
+use Rattle.adjacency.specs.declared.interface.Interface.{Interface}
+use Rattle.adjacency.specs.Rooms.{Fits}
+use Rattle.adjacency.proofs.Kept.{chosen}
 use Rattle.received.specs.Links.{Link}
 use Rattle.event_rules.specs.Originations.{announced_body, links_of, new_instance, point_to_point}
 use Rattle.event_rules.specs.Originations.{router_body, router_key, stub, wanted_body}

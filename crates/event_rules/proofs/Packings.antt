@@ -9,9 +9,9 @@ use Rattle.std.specs.Ordering.{is_eq, is_gt, ordering_reverse}
 use Rattle.std.specs.declared.cmp.Ordering.{Ordering}
 use Rattle.std.specs.declared.cmp.Ordering.TheVariants.{Less, Equal, Greater}
 use Rattle.words.specs.declared.key.Key.{Key}
-use Rattle.received.specs.lsdb.Headers.{Header}
-use Rattle.received.specs.lsdb.Keys.{key_cmp, same_key}
-use Rattle.received.proofs.lsdb.Keys.{keys_exact, keys_total}
+use Rattle.lsdb.specs.Headers.{Header}
+use Rattle.lsdb.specs.Keys.{key_cmp, same_key}
+use Rattle.lsdb.proofs.Keys.{keys_exact, keys_total}
 use Rattle.packet.specs.declared.model.PacketBody.{PacketBody}
 use Rattle.received.specs.Links.{Link}
 use Rattle.received.specs.AreaStates.{Send, at_interface}

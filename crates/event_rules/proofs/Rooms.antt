@@ -10,7 +10,7 @@ use Rattle.words.proofs.Records.{length-records_text}
 use Rattle.lsa.specs.Headers.{IsHeader, header_at, header_text}
 use Rattle.lsa.specs.Text as lsa_text
 use Rattle.lsa.proofs.Headers.{header-wide}
-use Rattle.received.specs.lsdb.Headers.{Header, Lsa, key_of, lsa_key}
+use Rattle.lsdb.specs.Headers.{Header, Lsa, key_of, lsa_key}
 use Rattle.packet.specs.declared.model.PacketBody.{PacketBody}
 use Rattle.packet.specs.declared.model.PacketBody.TheVariants as body
 use Rattle.packet.specs.declared.model.Packet.{Packet}
@@ -19,7 +19,7 @@ use Rattle.packet.specs.Reading.{key_at, router_id_at}
 use Rattle.packet.specs.Text.{IsKey, IsRouterId, body_text, canonical, closed_fields, description}
 use Rattle.packet.specs.Text.{header, hello, key_text, router_id_text, text, type_of}
 use Rattle.packet.proofs.Records.{key-wide, router_id-wide}
-use Rattle.received.specs.adjacency.Contents.{Content}
+use Rattle.adjacency.specs.Contents.{Content}
 use Rattle.received.specs.Links.{Link}
 use Rattle.received.specs.AreaStates.{Send, at_interface}
 use Rattle.event_rules.specs.declared.model.Out.{Out}

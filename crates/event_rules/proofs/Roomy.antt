@@ -16,28 +16,28 @@ use Rattle.std.proofs.lemmas.List.{length-map}
 use Rattle.words.specs.declared.key.Key.{Key}
 use Rattle.lsa.specs.Reading.{lsa_in}
 use Rattle.lsa.specs.declared.body.LsaBody.{LsaBody}
-use Rattle.received.specs.lsdb.Copies.{Database, DatabaseCopy, age_prematurely, has_just_aged_out}
-use Rattle.received.specs.lsdb.Copies.{install_originated, lsa_now}
-use Rattle.received.specs.lsdb.Headers.{Header, Lsa, lsa_with_age, lsa_key}
-use Rattle.received.specs.lsdb.Keys.{key_cmp}
-use Rattle.received.proofs.lsdb.Keys.{keys_exact, keys_total}
+use Rattle.lsdb.specs.Copies.{Database, DatabaseCopy, age_prematurely, has_just_aged_out}
+use Rattle.lsdb.specs.Copies.{install_originated, lsa_now}
+use Rattle.lsdb.specs.Headers.{Header, Lsa, lsa_with_age, lsa_key}
+use Rattle.lsdb.specs.Keys.{key_cmp}
+use Rattle.lsdb.proofs.Keys.{keys_exact, keys_total}
 use Rattle.packet.specs.declared.model.PacketBody.{PacketBody}
 use Rattle.packet.specs.declared.model.PacketBody.TheVariants as body
 use Rattle.packet.specs.declared.model.Hello.{Hello}
-use Rattle.received.specs.adjacency.Adjacencies as adjacencies
-use Rattle.received.specs.adjacency.Contents.{Content, Step as NeighborStep, no_sends}
-use Rattle.received.specs.adjacency.Descriptions.{after_description}
-use Rattle.received.specs.adjacency.Neighbors.{Neighbor}
-use Rattle.received.specs.adjacency.declared.interface.Interface.{Interface}
-use Rattle.received.specs.adjacency.Requests.{request_next}
-use Rattle.received.specs.adjacency.Retransmissions.{after_acknowledgment}
-use Rattle.received.specs.adjacency.Rooms.{AllFit, Fits, HasRoom, HasRoomyLists, IsRoomyStep}
-use Rattle.received.proofs.adjacency.Kept.{chosen}
-use Rattle.received.proofs.adjacency.Roomy.{acknowledgment_roomy, again_roomy, aged_fits}
-use Rattle.received.proofs.adjacency.Roomy.{copies_fit, description_roomy, filled_roomy}
-use Rattle.received.proofs.adjacency.Roomy.{hello_roomy, mismatched_roomy, now_fits}
-use Rattle.received.proofs.adjacency.Roomy.{old_description_roomy, quiet_roomy, request_roomy}
-use Rattle.received.proofs.adjacency.Roomy.{still_heard_roomy, updates_room}
+use Rattle.adjacency.specs.Adjacencies as adjacencies
+use Rattle.adjacency.specs.Contents.{Content, Step as NeighborStep, no_sends}
+use Rattle.adjacency.specs.Descriptions.{after_description}
+use Rattle.adjacency.specs.Neighbors.{Neighbor}
+use Rattle.adjacency.specs.declared.interface.Interface.{Interface}
+use Rattle.adjacency.specs.Requests.{request_next}
+use Rattle.adjacency.specs.Retransmissions.{after_acknowledgment}
+use Rattle.adjacency.specs.Rooms.{AllFit, Fits, HasRoom, HasRoomyLists, IsRoomyStep}
+use Rattle.adjacency.proofs.Kept.{chosen}
+use Rattle.adjacency.proofs.Roomy.{acknowledgment_roomy, again_roomy, aged_fits}
+use Rattle.adjacency.proofs.Roomy.{copies_fit, description_roomy, filled_roomy}
+use Rattle.adjacency.proofs.Roomy.{hello_roomy, mismatched_roomy, now_fits}
+use Rattle.adjacency.proofs.Roomy.{old_description_roomy, quiet_roomy, request_roomy}
+use Rattle.adjacency.proofs.Roomy.{still_heard_roomy, updates_room}
 use Rattle.received.specs.Holds.{Holds, HoldsOfEach}
 use Rattle.received.specs.Links.{Link, link_at, neighbor_on}
 use Rattle.received.specs.AreaStates.{AreaState, sends_at, on_database, on_links, sends_of}

@@ -2,7 +2,7 @@
 use Rattle.std.proofs.Common.{◌≡◌, List, Option, None, refl, sym, subst}
 use Rattle.std.specs.Prelude.{if◌then◌else◌}
 use Rattle.lsa.specs.Reading.{lsa_in}
-use Rattle.received.specs.lsdb.Headers.{Lsa}
+use Rattle.lsdb.specs.Headers.{Lsa}
 use Rattle.received.specs.Updates.{goes_on}
 use Rattle.words.specs.Numbers.{InterfaceNumber, Moment}
 use Rattle.event_rules.specs.EventState.{EventState}

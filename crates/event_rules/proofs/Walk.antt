@@ -12,19 +12,19 @@ use Rattle.words.specs.declared.key.Key.{Key}
 use Rattle.words.specs.declared.route.External.{External}
 use Rattle.lsa.specs.Reading.{lsa_in}
 use Rattle.lsa.specs.declared.body.LsaBody.{LsaBody}
-use Rattle.received.specs.lsdb.Copies.{DatabaseCopy, age_prematurely, is_aged_out}
-use Rattle.received.specs.lsdb.Headers.{Header, Lsa, lsa_with_age, lsa_key}
-use Rattle.received.specs.lsdb.Keys.{ByKey}
+use Rattle.lsdb.specs.Copies.{DatabaseCopy, age_prematurely, is_aged_out}
+use Rattle.lsdb.specs.Headers.{Header, Lsa, lsa_with_age, lsa_key}
+use Rattle.lsdb.specs.Keys.{ByKey}
 use Rattle.packet.specs.declared.model.PacketBody.{PacketBody}
 use Rattle.packet.specs.declared.model.PacketBody.TheVariants as body
 use Rattle.packet.specs.declared.model.Description.{Description}
 use Rattle.packet.specs.declared.model.Hello.{Hello}
 use Rattle.packet.specs.declared.model.Packet.{Packet}
 use Rattle.packet.specs.Text.{PacketText}
-use Rattle.received.specs.adjacency.Adjacencies as adjacencies
-use Rattle.received.specs.adjacency.Contents.{Content}
-use Rattle.received.specs.adjacency.Neighbors.{Neighbor}
-use Rattle.received.proofs.adjacency.Kept.{chosen}
+use Rattle.adjacency.specs.Adjacencies as adjacencies
+use Rattle.adjacency.specs.Contents.{Content}
+use Rattle.adjacency.specs.Neighbors.{Neighbor}
+use Rattle.adjacency.proofs.Kept.{chosen}
 use Rattle.received.specs.Cases.{Case}
 use Rattle.received.specs.Links.{Area, Link, any_exchange_or_loading, change_link, link_at}
 use Rattle.received.specs.Links.{neighbor_on}

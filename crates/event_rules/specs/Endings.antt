@@ -9,10 +9,10 @@ use Rattle.words.specs.Numbers.{Moment}
 use Rattle.words.specs.declared.key.Key.{Key}
 use Rattle.lsa.specs.Text.{body_text}
 use Rattle.lsa.specs.declared.body.LsaBody.{LsaBody}
-use Rattle.received.specs.lsdb.Copies.{DatabaseCopy, has_just_aged_out, is_aged_out, lsa_now}
-use Rattle.received.specs.adjacency.Adjacencies as adjacencies
-use Rattle.received.specs.adjacency.Neighbors.{Neighbor}
-use Rattle.received.specs.adjacency.Requests.{request_next}
+use Rattle.lsdb.specs.Copies.{DatabaseCopy, has_just_aged_out, is_aged_out, lsa_now}
+use Rattle.adjacency.specs.Adjacencies as adjacencies
+use Rattle.adjacency.specs.Neighbors.{Neighbor}
+use Rattle.adjacency.specs.Requests.{request_next}
 use Rattle.received.specs.Links.{Area, Link, any_has_retransmission, any_exchange_or_loading}
 use Rattle.received.specs.AreaStates.{AreaState, each_neighbor, on_database, on_links}
 use Rattle.event_rules.specs.Originations.{originate_or_postpone, postpone, router_body, router_key}

@@ -1,7 +1,7 @@
 -- An event in progress: the present state of the router, and what was sent so far, in order.
 use Rattle.std.specs.Prelude.{List, None}
 use Rattle.words.specs.Numbers.{Moment}
-use Rattle.received.specs.lsdb.Headers.{Lsa}
+use Rattle.lsdb.specs.Headers.{Lsa}
 use Rattle.received.specs.Flooding.{flood}
 use Rattle.received.specs.AreaStates.{AreaState, Send}
 use Rattle.event_rules.specs.Routers.{Router}

@@ -9,9 +9,9 @@ use Rattle.words.specs.Constants.{e_bit}
 use Rattle.packet.specs.declared.model.PacketBody.TheVariants as body
 use Rattle.packet.specs.declared.model.Hello.{Hello}
 use Rattle.packet.specs.declared.model.Packet.{Packet}
-use Rattle.received.specs.adjacency.Adjacencies.{has_passed}
-use Rattle.received.specs.adjacency.Neighbors.{Neighbor}
-use Rattle.received.specs.adjacency.declared.interface.Interface.{Interface}
+use Rattle.adjacency.specs.Adjacencies.{has_passed}
+use Rattle.adjacency.specs.Neighbors.{Neighbor}
+use Rattle.adjacency.specs.declared.interface.Interface.{Interface}
 use Rattle.received.specs.Links.{Link}
 
 -- ---- received Hellos

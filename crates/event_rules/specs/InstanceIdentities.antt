@@ -3,7 +3,7 @@ use Rattle.std.specs.Prelude.{ℕ, ℤ, List, [], map}
 use Rattle.std.specs.List.{filter_map}
 use Rattle.words.specs.declared.key.Key.{Key}
 use Rattle.lsa.specs.Reading.{lsa_in}
-use Rattle.received.specs.lsdb.Headers.{Header, Lsa, key_of}
+use Rattle.lsdb.specs.Headers.{Header, Lsa, key_of}
 use Rattle.packet.specs.declared.model.PacketBody.{PacketBody}
 use Rattle.packet.specs.declared.model.PacketBody.TheVariants as body
 

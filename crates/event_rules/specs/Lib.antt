@@ -15,5 +15,3 @@ pub mod Numbers
 pub mod PackingLaws
 pub mod RoomLaws
 pub mod Clocks
--- names from the crates below that crates above use
-pub use Rattle.received.specs as received

@@ -19,15 +19,15 @@ use Rattle.lsa.specs.declared.body.LsaBody.TheVariants as body
 use Rattle.lsa.specs.declared.body.RouterLink.{RouterLink}
 use Rattle.lsa.specs.declared.body.LinkKind.TheVariants.{PointToPoint, Stub}
 use Rattle.lsa.specs.Origination.{sealed_lsa}
-use Rattle.received.specs.lsdb.Copies.{DatabaseCopy, age_now, age_prematurely, install_originated}
-use Rattle.received.specs.lsdb.Copies.{is_aged_out}
-use Rattle.received.specs.lsdb.Headers.{Lsa, lsa_with_age, lsa_key}
-use Rattle.received.specs.lsdb.Keys.{same_key}
-pub use Rattle.received.specs.lsdb.Limits.{is_own_external, own_externals}
-use Rattle.received.specs.lsdb.Limits.{has_room as has_room_for}
-use Rattle.received.specs.adjacency.Adjacencies.{has_passed}
-use Rattle.received.specs.adjacency.Neighbors.{Neighbor, is_full}
-use Rattle.received.specs.adjacency.declared.interface.Interface.{Interface}
+use Rattle.lsdb.specs.Copies.{DatabaseCopy, age_now, age_prematurely, install_originated}
+use Rattle.lsdb.specs.Copies.{is_aged_out}
+use Rattle.lsdb.specs.Headers.{Lsa, lsa_with_age, lsa_key}
+use Rattle.lsdb.specs.Keys.{same_key}
+pub use Rattle.lsdb.specs.Limits.{is_own_external, own_externals}
+use Rattle.lsdb.specs.Limits.{has_room as has_room_for}
+use Rattle.adjacency.specs.Adjacencies.{has_passed}
+use Rattle.adjacency.specs.Neighbors.{Neighbor, is_full}
+use Rattle.adjacency.specs.declared.interface.Interface.{Interface}
 use Rattle.received.specs.Links.{Link}
 use Rattle.received.specs.AreaStates.{AreaState, on_database}
 use Rattle.event_rules.specs.EventState.{EventState, flood_from_nobody, on_area, on_router}

@@ -5,19 +5,19 @@ use Rattle.std.specs.List.{list_all}
 use Rattle.words.specs.Numbers.{InterfaceNumber, Moment, RouterNumber}
 use Rattle.words.specs.declared.key.Key.{Key}
 use Rattle.lsa.specs.Reading.{lsa_in}
-use Rattle.received.specs.lsdb.Headers.{Header, Lsa}
+use Rattle.lsdb.specs.Headers.{Header, Lsa}
 use Rattle.packet.specs.declared.model.PacketBody.{PacketBody}
 use Rattle.packet.specs.declared.model.PacketBody.TheVariants as body
 use Rattle.packet.specs.declared.model.Description.{Description}
 use Rattle.packet.specs.declared.model.Hello.{Hello}
 use Rattle.packet.specs.declared.model.Packet.{Packet}
-use Rattle.received.specs.adjacency.Adjacencies as adjacencies
-use Rattle.received.specs.adjacency.Contents.{Content, Step, no_sends}
-use Rattle.received.specs.adjacency.Descriptions.{after_description}
-use Rattle.received.specs.adjacency.Neighbors.{Neighbor}
-use Rattle.received.specs.adjacency.Retransmissions.{after_acknowledgment}
-pub use Rattle.received.specs.adjacency.Steps.{neighbor_is_exchange_or_later, is_there}
-pub use Rattle.received.specs.adjacency.Steps.{lsas_of as requested_lsas}
+use Rattle.adjacency.specs.Adjacencies as adjacencies
+use Rattle.adjacency.specs.Contents.{Content, Step, no_sends}
+use Rattle.adjacency.specs.Descriptions.{after_description}
+use Rattle.adjacency.specs.Neighbors.{Neighbor}
+use Rattle.adjacency.specs.Retransmissions.{after_acknowledgment}
+pub use Rattle.adjacency.specs.Steps.{neighbor_is_exchange_or_later, is_there}
+pub use Rattle.adjacency.specs.Steps.{lsas_of as requested_lsas}
 use Rattle.received.specs.Cases.{Case}
 use Rattle.received.specs.Links.{Link, change_link, link_at, neighbor_at}
 use Rattle.received.specs.AreaStates.{AreaState, sends_at, on_links, one_neighbor, sending}

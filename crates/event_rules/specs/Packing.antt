@@ -8,14 +8,14 @@ use Rattle.words.specs.Constants.{largest_packet}
 use Rattle.words.specs.Numbers.{InterfaceNumber, RouterNumber, Seconds}
 use Rattle.words.specs.declared.key.Key.{Key}
 use Rattle.lsa.specs.Text.{text}
-use Rattle.received.specs.lsdb.Headers.{Header, Lsa, key_of, lsa_key}
-use Rattle.received.specs.lsdb.Keys.{key_cmp}
+use Rattle.lsdb.specs.Headers.{Header, Lsa, key_of, lsa_key}
+use Rattle.lsdb.specs.Keys.{key_cmp}
 use Rattle.packet.specs.declared.model.PacketBody.{PacketBody}
 use Rattle.packet.specs.declared.model.PacketBody.TheVariants as body
 use Rattle.packet.specs.declared.model.Packet.{Packet}
 use Rattle.packet.specs.Text.{PacketText, canonical}
-use Rattle.received.specs.adjacency.Contents.{Content}
-pub use Rattle.received.specs.adjacency.Drafts.{sent_lsa}
+use Rattle.adjacency.specs.Contents.{Content}
+pub use Rattle.adjacency.specs.Drafts.{sent_lsa}
 use Rattle.received.specs.Links.{Link}
 use Rattle.received.specs.AreaStates.{Send, at_interface}
 use Rattle.event_rules.specs.declared.model.Out.{Out}

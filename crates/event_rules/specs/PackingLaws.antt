@@ -3,12 +3,12 @@ use Rattle.std.specs.Prelude.{◌≡◌, ◌≤◌, ◌<◌, ℕ, ◌+◌, false
 use Rattle.std.specs.List.{AllByRecursion, filter, flat_map}
 use Rattle.words.specs.Constants.{largest_packet}
 use Rattle.words.specs.declared.key.Key.{Key}
-use Rattle.received.specs.lsdb.Headers.{Header, Lsa, key_of, lsa_key}
-use Rattle.received.specs.lsdb.Keys.{same_key}
+use Rattle.lsdb.specs.Headers.{Header, Lsa, key_of, lsa_key}
+use Rattle.lsdb.specs.Keys.{same_key}
 use Rattle.packet.specs.declared.model.PacketBody.{PacketBody}
 use Rattle.packet.specs.Text.{body_text, closed_fields, lsa_count}
-use Rattle.received.specs.adjacency.Contents.{Content}
-pub use Rattle.received.specs.adjacency.Rooms.{HasRoom}
+use Rattle.adjacency.specs.Contents.{Content}
+pub use Rattle.adjacency.specs.Rooms.{HasRoom}
 use Rattle.received.specs.Links.{Link}
 use Rattle.received.specs.AreaStates.{Send}
 use Rattle.event_rules.specs.declared.model.Out.{Out}

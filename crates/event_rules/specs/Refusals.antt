@@ -13,7 +13,7 @@ use Rattle.event_rules.specs.declared.model.CoreError.TheVariants as error
 use Rattle.event_rules.specs.declared.model.Out.{Out}
 use Rattle.event_rules.specs.Commands.{is_for, same_external}
 use Rattle.event_rules.specs.Events.{Happens}
-use Rattle.received.specs.lsdb.Limits.{exceeds as database_exceeds}
+use Rattle.lsdb.specs.Limits.{exceeds as database_exceeds}
 use Rattle.event_rules.specs.Originations.{external_key}
 use Rattle.event_rules.specs.Routers.{Occurrence, Router}
 

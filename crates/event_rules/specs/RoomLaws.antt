@@ -3,8 +3,8 @@
 use Rattle.std.specs.Prelude.{◌≡◌, ◌≤◌, ℕ, true, List, length}
 use Rattle.std.specs.List.{AllByRecursion}
 use Rattle.words.specs.Constants.{largest_packet}
-use Rattle.received.specs.adjacency.Neighbors.{Neighbor}
-use Rattle.received.specs.adjacency.Rooms.{AllFit, HasRoom, HasRoomyLists}
+use Rattle.adjacency.specs.Neighbors.{Neighbor}
+use Rattle.adjacency.specs.Rooms.{AllFit, HasRoom, HasRoomyLists}
 use Rattle.received.specs.Holds.{HoldsOfEach}
 use Rattle.received.specs.AreaStates.{Send}
 use Rattle.event_rules.specs.declared.model.Config.{Config}

@@ -9,10 +9,10 @@ use Rattle.words.specs.Numbers.{InterfaceNumber, Moment, RouterNumber}
 use Rattle.words.specs.Prefixes.{Network}
 use Rattle.words.specs.declared.route.External.{External}
 use Rattle.words.specs.declared.route.Route.{Route}
-use Rattle.received.specs.lsdb.Keys.{ByKey, KeySet}
-use Rattle.received.specs.adjacency.declared.interface.Interface.{Interface}
-use Rattle.received.specs.adjacency.declared.state.NeighborState.{NeighborState}
-use Rattle.received.specs.adjacency.Steps.{named_neighbor}
+use Rattle.lsdb.specs.Keys.{ByKey, KeySet}
+use Rattle.adjacency.specs.declared.interface.Interface.{Interface}
+use Rattle.adjacency.specs.declared.state.NeighborState.{NeighborState}
+use Rattle.adjacency.specs.Steps.{named_neighbor}
 use Rattle.received.specs.Links.{Area, Link, neighbor_at}
 pub use Rattle.received.specs.Links.{fresh_link}
 use Rattle.event_rules.specs.declared.model.Config.{Config}

@@ -2,11 +2,11 @@
 use Rattle.std.specs.Prelude.{ℕ, if◌then◌else◌, List, [], ◌∷◌, map, Option, None, Some}
 use Rattle.std.specs.FinMap as finite
 use Rattle.words.specs.Numbers.{Moment, Seconds}
-use Rattle.received.specs.adjacency.Adjacencies.{after_inactivity_timer}
-use Rattle.received.specs.adjacency.Contents.{Content}
-use Rattle.received.specs.adjacency.Descriptions.{without_old_description}
-use Rattle.received.specs.adjacency.Neighbors.{Neighbor}
-use Rattle.received.specs.adjacency.Retransmissions.{send_again}
+use Rattle.adjacency.specs.Adjacencies.{after_inactivity_timer}
+use Rattle.adjacency.specs.Contents.{Content}
+use Rattle.adjacency.specs.Descriptions.{without_old_description}
+use Rattle.adjacency.specs.Neighbors.{Neighbor}
+use Rattle.adjacency.specs.Retransmissions.{send_again}
 use Rattle.received.specs.Links.{Link}
 use Rattle.received.specs.AreaStates.{AreaState, Stepping, each_neighbor, on_links, sending}
 use Rattle.received.specs.AreaStates.{sends_of}

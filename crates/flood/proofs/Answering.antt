@@ -10,15 +10,15 @@ use Rattle.words.specs.declared.route.External.{External}
 use Rattle.words.specs.declared.route.Route.{Route}
 use Rattle.lsa.specs.Reading.{lsa_in}
 use Rattle.lsa.specs.declared.body.LsaBody.{LsaBody}
-use Rattle.invariants.specs.lsdb.Headers.{Lsa, lsa_key}
+use Rattle.lsdb.specs.Headers.{Lsa, lsa_key}
 use Rattle.packet.specs.declared.model.PacketBody.{PacketBody}
 use Rattle.packet.specs.declared.model.PacketBody.TheVariants as body
 use Rattle.packet.specs.declared.model.Packet.{Packet}
-use Rattle.invariants.specs.adjacency.Neighbors.{Neighbor}
-use Rattle.event_rules.specs.received.Cases.{Case}
-use Rattle.event_rules.specs.received.Links.{Link, neighbor_at}
-use Rattle.event_rules.specs.received.AreaStates.{on_links}
-use Rattle.event_rules.specs.received.Updates.{case_at, goes_on}
+use Rattle.adjacency.specs.Neighbors.{Neighbor}
+use Rattle.received.specs.Cases.{Case}
+use Rattle.received.specs.Links.{Link, neighbor_at}
+use Rattle.received.specs.AreaStates.{on_links}
+use Rattle.received.specs.Updates.{case_at, goes_on}
 use Rattle.event_rules.specs.declared.model.CoreError.{CoreError}
 use Rattle.event_rules.specs.declared.model.CoreError.TheVariants as error
 use Rattle.event_rules.specs.declared.model.Out.{Out}

@@ -3,7 +3,7 @@ use Rattle.std.proofs.Common.{◌≡◌, ℕ, ◌+◌, ◌<◌, true, false, not
 use Rattle.std.proofs.Common.{get_or, drop, sym, ap, ◌∙◌}
 use Rattle.std.specs.List.{list_any}
 use Rattle.std.proofs.lemmas.List.{at_drop_more}
-use Rattle.invariants.specs.adjacency.declared.interface.Interface.{Interface}
+use Rattle.adjacency.specs.declared.interface.Interface.{Interface}
 use Rattle.event_rules.specs.Routers.{are_distinct}
 
 distinct_here : (xs : List Interface) (i : ℕ) (x : Interface) → i < length xs → x ≡ get_or xs i x

@@ -2,14 +2,14 @@
 use Rattle.std.proofs.Common.{◌≡◌, ℕ, ◌+◌, List, [], ◌∷◌, ◌++◌, refl, sym, ap, ◌∙◌, subst}
 use Rattle.std.proofs.Common.{append_assoc, append-nil}
 use Rattle.std.specs.List.{AllByRecursion, enumerate_from, flat_map}
-use Rattle.invariants.specs.adjacency.Drafts.{Drafted}
-use Rattle.invariants.specs.adjacency.Rooms.{HasRoom}
-use Rattle.event_rules.specs.received.Links.{Link}
-use Rattle.event_rules.specs.received.AreaStates.{Send}
+use Rattle.adjacency.specs.Drafts.{Drafted}
+use Rattle.adjacency.specs.Rooms.{HasRoom}
+use Rattle.received.specs.Links.{Link}
+use Rattle.received.specs.AreaStates.{Send}
 use Rattle.event_rules.specs.declared.model.Out.{Out}
 use Rattle.event_rules.specs.Packing.{outs_at}
 use Rattle.invariants.specs.Keeping.{AreTextsAt}
-use Rattle.area_routes.specs.flooding.Drafted.{drafts_with, drafted_from, nothing_at}
+use Rattle.area.specs.Drafted.{drafts_with, drafted_from, nothing_at}
 use Rattle.router.specs.Drafts.{IsDraftAt}
 use Rattle.router.specs.Making.{interfaces_of}
 use Rattle.router.proofs.Drafts.{drafted_same}

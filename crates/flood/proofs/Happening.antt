@@ -1,8 +1,8 @@
 -- What the code does in an event, in terms of the rules.
 use Rattle.std.proofs.Common.{◌≡◌, ℕ, true, false, List, None, refl, sym, ap, ◌∙◌}
 use Rattle.std.specs.List.{AllByRecursion}
-use Rattle.invariants.specs.adjacency.Rooms.{HasRoom}
-use Rattle.event_rules.specs.received.AreaStates.{Send}
+use Rattle.adjacency.specs.Rooms.{HasRoom}
+use Rattle.received.specs.AreaStates.{Send}
 use Rattle.event_rules.specs.RoomLaws.{IsRoomy}
 use Rattle.event_rules.proofs.Roomy.{every_packet_has_room}
 use Rattle.event_rules.specs.declared.model.Out.{Out}

@@ -7,9 +7,9 @@ use Rattle.area_routes.proofs.AfterExternals.{unanswered, unmatched}
 use Rattle.event_rules.specs.declared.model.CoreError.{CoreError}
 use Rattle.event_rules.specs.Refusals.{MayLackMemory}
 use Rattle.event_rules.specs.Routers.{Router}
-use Rattle.event_rules.specs.received.Links.{Area}
-use Rattle.area_routes.specs.routes.Contents.{contents_at}
-use Rattle.area_routes.specs.routes.Tables.{RouteWords}
+use Rattle.received.specs.Links.{Area}
+use Rattle.routes.specs.Contents.{contents_at}
+use Rattle.routes.specs.Tables.{RouteWords}
 use Rattle.flood.specs.Offers.{AreKeptNow}
 
 pub are_kept : (r : Router) (id : ℕ) (area : Area) (moment : ℕ) (answers : RouteWords)

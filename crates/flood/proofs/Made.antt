@@ -2,9 +2,9 @@
 use Rattle.std.proofs.Common.{◌≡◌, ℕ, suc, ◌+◌, ◌≤◌, false, List, [], ◌∷◌, length, Result, Ok, Err}
 use Rattle.std.proofs.Common.{OnOk, IfOk, refl, sym, ap, subst, ◌∙◌}
 use Rattle.std.specs.List.{AllByRecursion}
-use Rattle.invariants.specs.adjacency.Drafts.{Drafted}
-use Rattle.invariants.specs.adjacency.Rooms.{HasRoom}
-use Rattle.event_rules.specs.received.AreaStates.{Send}
+use Rattle.adjacency.specs.Drafts.{Drafted}
+use Rattle.adjacency.specs.Rooms.{HasRoom}
+use Rattle.received.specs.AreaStates.{Send}
 use Rattle.event_rules.specs.declared.model.CoreError.{CoreError}
 use Rattle.event_rules.specs.declared.model.CoreError.TheVariants as error
 use Rattle.event_rules.specs.declared.model.Out.{Out}
@@ -13,8 +13,8 @@ use Rattle.event_rules.specs.EventState.{EventState, on_area}
 use Rattle.event_rules.specs.Packing.{outs_of}
 use Rattle.event_rules.specs.Refusals.{exceeds}
 use Rattle.event_rules.specs.Routers.{Router}
-use Rattle.event_rules.specs.received.Links.{Link}
-use Rattle.area_routes.specs.flooding.Drafted.{nothing_at}
+use Rattle.received.specs.Links.{Link}
+use Rattle.area.specs.Drafted.{nothing_at}
 use Rattle.router.specs.Making.{IsMaking, Makes, interfaces_of}
 use Rattle.router.proofs.Making.{makes_then, making_starts}
 use Rattle.router.specs.Kept.{KeptRouter}

@@ -1,8 +1,8 @@
 -- Properties of a router's parts are those of the router, and conversely.
 use Rattle.std.proofs.Common.{◌≡◌, ℕ, subst, sym}
 use Rattle.event_rules.specs.Routers.{Router}
-use Rattle.event_rules.specs.received.Links.{Area}
-use Rattle.area_routes.specs.routes.Tables.{RouteWords}
+use Rattle.received.specs.Links.{Area}
+use Rattle.routes.specs.Tables.{RouteWords}
 
 module _ (P : ℕ → Area → ℕ → RouteWords → Type 0) (r : Router) (id : ℕ) (area : Area) (moment : ℕ)
     (answers : RouteWords) (a : id ≡ r.id) (b : area ≡ r.area) (c : moment ≡ r.moment)

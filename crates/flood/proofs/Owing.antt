@@ -2,10 +2,10 @@
 use Rattle.std.proofs.Common.{◌≡◌, ◌⊎◌, ℕ, ◌+◌, ◌<◌, zero, suc, List, [], ◌∷◌, Some, None, get_or}
 use Rattle.std.proofs.Common.{length, map, refl, sym, ap, ◌∙◌, inl, inr, arith}
 use Rattle.std.specs.Prelude.{slice_get}
-use Rattle.area_routes.specs.flooding.Kept.{KeptLink}
-use Rattle.area_routes.specs.flooding.Links.{present}
-use Rattle.area_routes.specs.flooding.Owed.{owed_on}
-use Rattle.event_rules.specs.received.Links.{Link, neighbor_at, neighbor_on}
+use Rattle.area.specs.Kept.{KeptLink}
+use Rattle.area.specs.Links.{present}
+use Rattle.area.specs.Owed.{owed_on}
+use Rattle.received.specs.Links.{Link, neighbor_at, neighbor_on}
 
 none_behind : (links : List KeptLink) (place : ℕ) → length links < suc place
     → slice_get (map present links) place ≡ None

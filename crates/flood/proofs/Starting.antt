@@ -3,12 +3,12 @@ use Rattle.std.proofs.Common.{◌≡◌, ◌≤◌, true, length, List, map, [],
 use Rattle.std.proofs.Common.{sym, ap, ◌∙◌, arith}
 use Rattle.std.proofs.lemmas.Bool.{and_parts, leb-true}
 use Rattle.std.proofs.lemmas.List.{length-map}
-use Rattle.invariants.specs.adjacency.declared.interface.Interface.{Interface}
+use Rattle.adjacency.specs.declared.interface.Interface.{Interface}
 use Rattle.event_rules.specs.declared.model.Config.{Config}
 use Rattle.event_rules.specs.EventState.{EventState}
 use Rattle.event_rules.specs.Routers.{fresh_link, in_profile}
-use Rattle.area_routes.specs.flooding.Kept.{KeptLink}
-use Rattle.area_routes.specs.flooding.Links.{present}
+use Rattle.area.specs.Kept.{KeptLink}
+use Rattle.area.specs.Links.{present}
 use Rattle.router.specs.Kept.{KeptRouter}
 use Rattle.router.specs.Making.{Makes}
 use Rattle.router.proofs.Making.{making_starts}

@@ -1,8 +1,8 @@
 -- The drafts of an event, one for each interface.
 use Rattle.std.specs.Prelude.{ℕ, ◌+◌, List, [], ◌∷◌}
-use Rattle.invariants.specs.adjacency.Drafts.{Drafted}
-use Rattle.event_rules.specs.received.Links.{Link}
-use Rattle.event_rules.specs.received.AreaStates.{Send}
+use Rattle.adjacency.specs.Drafts.{Drafted}
+use Rattle.received.specs.Links.{Link}
+use Rattle.received.specs.AreaStates.{Send}
 use Rattle.router.specs.Drafts.{IsDraftAt}
 
 -- what is sent on each link is in its draft; `n` is the number of the first link

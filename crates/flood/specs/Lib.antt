@@ -9,7 +9,3 @@ pub mod Bytes
 pub mod Replay
 pub mod Refusals
 pub mod Numbers
--- names from the crates below that crates above use
-pub use Rattle.adjacency.specs.declared.state.NeighborState
-pub use Rattle.area_routes.specs as area_routes
-pub use Rattle.event_rules.specs as event_rules

@@ -1,8 +1,8 @@
 -- Links at the start.
-use Rattle.invariants.specs.adjacency.Drafts.{nothing_drafted}
-use Rattle.invariants.specs.adjacency.declared.interface.Interface.{Interface}
+use Rattle.adjacency.specs.Drafts.{nothing_drafted}
+use Rattle.adjacency.specs.declared.interface.Interface.{Interface}
 use Rattle.event_rules.specs.Routers.{fresh_link}
-use Rattle.area_routes.specs.flooding.Kept.{KeptLink}
+use Rattle.area.specs.Kept.{KeptLink}
 
 -- a link on which nothing was received, sent or drafted, committed
 abbrev pub fresh_kept : Interface → KeptLink

@@ -1,8 +1,8 @@
 //! The end of an event: what it sends, and what is kept for routes between events.
 ghost use Rattle.std.specs.Prelude.{◌≡◌, ◌≤◌, List, IfOk, OnErr, OnOk, false, length};
 ghost use Rattle.area_routes.specs.Kept.{AreKept, KeepsWalkUnlessChanged};
-ghost use Rattle.event_rules.specs.received.Links.{Link as LinkOfArea};
-ghost use Rattle.event_rules.specs.received.AreaStates.{Send};
+ghost use Rattle.received.specs.Links.{Link as LinkOfArea};
+ghost use Rattle.received.specs.AreaStates.{Send};
 ghost use Rattle.event_rules.specs.Packing.{outs_of};
 ghost use Rattle.invariants.specs.Keeping.{AreTexts};
 ghost use Rattle.flood.specs.Drafts.{AreDrafts};

@@ -3,7 +3,7 @@ ghost use Rattle.std.specs.Prelude.{◌≡◌, IfOk, None, OnErr, OnOk, false};
 ghost use Rattle.event_rules.specs.RoomLaws.{IsRoomy};
 ghost use Rattle.event_rules.specs.Events.{Happens};
 ghost use Rattle.event_rules.specs.Refusals.{RefusesByRules, exceeds, is_interface, no_interface};
-ghost use Rattle.area_routes.specs.flooding.Drafted.{nothing_at};
+ghost use Rattle.area.specs.Drafted.{nothing_at};
 ghost use Rattle.invariants.specs.InOrder.{IsConsistent};
 ghost use Rattle.invariants.specs.Keeping.{HasNumbersInRange, KeepsWhatIsKnown};
 ghost use Rattle.flood.specs.Early.{early_refusal};

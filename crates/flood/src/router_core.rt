@@ -42,13 +42,13 @@ impl Model for Core {
     ghost use Rattle.std.specs.Coded.{codes};
     ghost use Rattle.std.specs.FinMap as finite;
     ghost use Rattle.words.specs.declared.route.External.{External};
-    ghost use Rattle.invariants.specs.lsdb.Copies.{DatabaseCopy};
-    ghost use Rattle.invariants.specs.lsdb.Keys.{coded_key, key_cmp};
-    ghost use Rattle.invariants.specs.adjacency.Codes.{coded_headers, coded_keys, coded_lists};
+    ghost use Rattle.lsdb.specs.Copies.{DatabaseCopy};
+    ghost use Rattle.lsdb.specs.Keys.{coded_key, key_cmp};
+    ghost use Rattle.adjacency.specs.Codes.{coded_headers, coded_keys, coded_lists};
     ghost use Rattle.event_rules.specs.RoomLaws.{IsRoomy};
     ghost use Rattle.event_rules.specs.Refusals.{exceeds};
     ghost use Rattle.event_rules.specs.Routers.{Router as Shown};
-    ghost use Rattle.area_routes.specs.flooding.Drafted.{nothing_at};
+    ghost use Rattle.area.specs.Drafted.{nothing_at};
     ghost use Rattle.flood.specs.Offers.{AreKeptNow};
     ghost use Rattle.invariants.specs.InOrder.{IsConsistent};
     ghost use Rattle.invariants.specs.Keeping.{HasNumbersInRange};

@@ -1,7 +1,7 @@
 //! From the drafts of an event to its packets.
 ghost use Rattle.std.specs.Prelude.{◌≡◌, ◌≤◌, List, IfOk, OnOk, length};
-ghost use Rattle.event_rules.specs.received.Links.{Link as LinkOfArea};
-ghost use Rattle.event_rules.specs.received.AreaStates.{Send};
+ghost use Rattle.received.specs.Links.{Link as LinkOfArea};
+ghost use Rattle.received.specs.AreaStates.{Send};
 ghost use Rattle.event_rules.specs.Packing.{outs_of};
 ghost use Rattle.invariants.specs.Keeping.{AreTexts};
 ghost use Rattle.flood.specs.Drafts.{AreDrafts};

@@ -9,5 +9,5 @@ pub mod Refusals
 pub mod Answered
 pub mod Vacant
 pub mod VetoAnswers
+
 -- names of the crates below for those above
-pub use Rattle.machine.specs as machine

@@ -3,7 +3,7 @@ use Rattle.std.specs.Prelude.{◌==◌, ◌%◌, ℕ, Bool, false, Ok, Err, nat_
 use Rattle.isa.specs.declared.hook.Hook.{Hook}
 use Rattle.isa.specs.declared.hook.Hook.TheVariants as hooks
 use Rattle.interp.specs.Outcome.{trap_number}
-use Rattle.interp.specs.Run.{Run}
+use Rattle.word_machine.specs.declared.ending.Run.{Run}
 use Rattle.interp.specs.declared.trap.Trap.{Trap}
 use Rattle.std.specs.Prelude.{Result}
 use Rattle.hooktool_trials.specs.declared.steps.ExpectedAnswer.{ExpectedAnswer}

@@ -10,6 +10,3 @@ pub mod LimitLaws
 pub mod Retransmissions
 pub mod OwnLsas
 pub mod WrongSteps
--- names from the crates below that crates above use
-pub use Rattle.adjacency.specs as adjacency
-pub use Rattle.lsdb.specs as lsdb

@@ -11,8 +11,8 @@ use Rattle.std.proofs.lemmas.Bool.{cases_eq}
 use mathlib.Core.Bool.{false≢true}
 use Rattle.keyed_map.specs.Keys.{key_cmp}
 use Rattle.keyed_map.proofs.Keys.{keys_exact}
-use Rattle.routes.specs.lsdb.Changes.{HaveNoMaxAge, HaveSameStoredAge, IsUpTo, ContentsAgree}
-use Rattle.routes.specs.lsdb.Copies.{Database, DatabaseCopy, max_age_keys, is_aged_out}
+use Rattle.lsdb.specs.Changes.{HaveNoMaxAge, HaveSameStoredAge, IsUpTo, ContentsAgree}
+use Rattle.lsdb.specs.Copies.{Database, DatabaseCopy, max_age_keys, is_aged_out}
 use Rattle.routes.specs.Contents.{contents_at, contents_of}
 use Rattle.kept_routes.specs.Ages.{HaveNotJustAgedOut}
 use Rattle.kept_routes.specs.Sameness.{AreLsasUnchanged, HaveSameContents}

@@ -6,7 +6,7 @@ use Rattle.std.specs.List.{Contains}
 use Rattle.std.specs.Prelude.{IfSome, slice_get}
 use Rattle.std.proofs.lemmas.Option.{same_Some}
 use Rattle.lsa.specs.declared.body.LsaBody.{LsaBody}
-use Rattle.routes.specs.lsdb.Copies.{Database, DatabaseCopy, contents_of}
+use Rattle.lsdb.specs.Copies.{Database, DatabaseCopy, contents_of}
 use Rattle.words.specs.Prefixes.{Network}
 use Rattle.words.specs.declared.key.Key.{Key}
 use Rattle.words.specs.declared.route.Route.{Route}

@@ -5,7 +5,7 @@ use Rattle.std.specs.FinMap as finite
 use Rattle.lsa.specs.declared.body.LsaBody.{LsaBody}
 use Rattle.words.specs.declared.key.Key.{Key}
 use Rattle.words.specs.declared.route.Route.{Route}
-use Rattle.routes.specs.lsdb.Copies.{Database, DatabaseCopy, max_age_keys, contents_of}
+use Rattle.lsdb.specs.Copies.{Database, DatabaseCopy, max_age_keys, contents_of}
 use Rattle.routes.specs.Candidates.{AreCandidates, Offers, OffersExternal}
 use Rattle.routes.specs.Candidates.Offers.{Between, External, Within}
 use Rattle.routes.specs.Paths.{Way}
@@ -24,8 +24,8 @@ use Rattle.routes.specs.declared.node.Node.TheVariants.{ARouter}
 use Rattle.candidates.specs.Borders.{IsFlagged}
 use Rattle.candidates.specs.Ways.{AreWays, Ways}
 use Rattle.candidates.specs.Reached.{way_in}
-use Rattle.routes.specs.lsdb.Changes.{ContentsAgree}
-use Rattle.routes.specs.lsdb.Unchanged.{IsUnchangedApartFromAging}
+use Rattle.lsdb.specs.Changes.{ContentsAgree}
+use Rattle.lsdb.specs.Unchanged.{IsUnchangedApartFromAging}
 use Rattle.kept_routes.specs.Externals.{AreOldOrLeftOut, IsUnreached, AreOfferingLsasUnchanged}
 use Rattle.kept_routes.specs.Externals.{OfferTheSame}
 use Rattle.kept_routes.specs.Externals.{OffersNothing}

@@ -23,7 +23,7 @@ use Rattle.words.specs.declared.key.Key.{Key}
 use Rattle.keyed_map.specs.Keys.{key_cmp}
 use Rattle.keyed_map.specs.Slots.{keys_from}
 use Rattle.keyed_map.proofs.Keys.{keys_exact}
-use Rattle.routes.specs.lsdb.Copies.{Database}
+use Rattle.lsdb.specs.Copies.{Database}
 use Rattle.routes.proofs.Lists.{first_is, later_is, of_cons, of_empty}
 use Rattle.routes.proofs.Listed.{other_default}
 use Rattle.kept_routes.proofs.Named.{first_part, from_zero, id_cmp, less, not_more, second_part}

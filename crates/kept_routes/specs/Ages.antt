@@ -2,8 +2,8 @@
 use Rattle.std.specs.Prelude.{◌≡◌, ℕ, List, Option, Some, true}
 use Rattle.std.specs.FinMap as finite
 use Rattle.std.specs.List.{Contains}
-use Rattle.routes.specs.lsdb.Changes.{IsUpTo}
-use Rattle.routes.specs.lsdb.Copies.{Database, DatabaseCopy, is_aged_out}
+use Rattle.lsdb.specs.Changes.{IsUpTo}
+use Rattle.lsdb.specs.Copies.{Database, DatabaseCopy, is_aged_out}
 use Rattle.words.specs.Numbers.{Moment}
 use Rattle.words.specs.declared.key.Key.{Key}
 

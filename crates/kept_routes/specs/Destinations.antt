@@ -5,7 +5,7 @@ use Rattle.std.specs.List.{Contains}
 use Rattle.candidates.specs.Inner.{AreInner, AreSearchable}
 use Rattle.candidates.specs.declared.inner.InnerRoutes.{InnerRoutes}
 use Rattle.lsa.specs.declared.body.LsaBody.{LsaBody}
-use Rattle.routes.specs.lsdb.Copies.{Database}
+use Rattle.lsdb.specs.Copies.{Database}
 use Rattle.candidates.specs.Sources.{OfExternal}
 use Rattle.candidates.specs.Ways.{AreWays, Ways}
 use Rattle.routes.specs.Candidates.{IsCandidate}

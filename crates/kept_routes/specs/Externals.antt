@@ -2,7 +2,7 @@
 use Rattle.std.specs.Prelude.{◌≡◌, ◌≢◌, ◌⊎◌, ◌≤◌, true, List, None, Some}
 use Rattle.std.specs.FinMap as finite
 use Rattle.std.specs.List.{Contains}
-use Rattle.routes.specs.lsdb.Copies.{Database}
+use Rattle.lsdb.specs.Copies.{Database}
 use Rattle.candidates.specs.Borders.{IsFlagged}
 use Rattle.routes.specs.Contents.{Contents, contents_at}
 use Rattle.routes.specs.Summaries.{IsBoundaryWay}

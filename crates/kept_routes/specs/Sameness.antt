@@ -1,8 +1,8 @@
 -- LSAs that are unchanged (RFC 2328, section 16).
 use Rattle.std.specs.Prelude.{◌≡◌, ℕ, Option, Some}
 use Rattle.std.specs.FinMap as finite
-use Rattle.routes.specs.lsdb.Changes.{IsUpTo, ContentsAgree}
-use Rattle.routes.specs.lsdb.Copies.{Database, DatabaseCopy}
+use Rattle.lsdb.specs.Changes.{IsUpTo, ContentsAgree}
+use Rattle.lsdb.specs.Copies.{Database, DatabaseCopy}
 use Rattle.kept_routes.specs.Ages.{HasNotJustReachedMaxAge}
 use Rattle.routes.specs.Contents.{Contents}
 use Rattle.words.specs.Numbers.{Moment}

@@ -2,7 +2,7 @@
 ghost use Rattle.std.specs.Prelude.{◌≡◌, ◌≤◌, ◌↔◌, IfOk, IsTrue};
 ghost use Rattle.std.specs.FinMap as finite;
 ghost use Rattle.std.specs.List.{Contains};
-ghost use Rattle.routes.specs.lsdb.Copies.{DatabaseCopy as CopyValue, is_aged_out};
+ghost use Rattle.lsdb.specs.Copies.{DatabaseCopy as CopyValue, is_aged_out};
 ghost use Rattle.routes.specs.Contents.{contents_at};
 ghost use Rattle.words.specs.declared.key.Key.{Key as KeyValue};
 ghost use Rattle.kept_routes.specs.Ages.{HaveNotJustAgedOut, HasNotJustAgedOut};

@@ -14,7 +14,7 @@ use Rattle.routes.proofs.Determined.{never_both}
 use Rattle.routes.proofs.Listed.{other_default}
 use Rattle.routes.proofs.OneMore.{never_itself}
 use Rattle.event_rules.specs.Routers.{Router}
-use Rattle.worker.specs.Offers.{AreCandidatesNow, IsTableNow}
+use Rattle.flood.specs.Offers.{AreCandidatesNow, IsTableNow}
 use Rattle.operator.specs.Shown.{IsPartOf}
 
 -- a table stands among its candidates

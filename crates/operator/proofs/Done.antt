@@ -5,14 +5,14 @@ use mathlib.Core.List.{IsPrefix}
 use Rattle.words.specs.Numbers.{Moment}
 use Rattle.words.specs.declared.route.External.{External}
 use Rattle.hooks.specs.declared.operation.LoaderOperation.{LoaderOperation}
-use Rattle.worker.specs.Askers.{AskerState, IsLater}
+use Rattle.turns.specs.Askers.{AskerState, IsLater}
 use Rattle.worker.specs.Lives.{IsSent, IsTried, Senses, Shows, Standing}
 use Rattle.worker.specs.Sending.{Gives}
-use Rattle.worker.specs.TurnOutcome.{TurnOutcome}
-use Rattle.worker.specs.TurnError.{TurnError}
-use Rattle.worker.specs.Turns.{IsTurned, Offers, Refuses, RefusesFor, Took}
-use Rattle.worker.specs.Work.{Work}
-use Rattle.worker.specs.Work.TheVariants as work
+use Rattle.turns.specs.declared.turned.TurnOutcome.{TurnOutcome}
+use Rattle.turns.specs.declared.turned.TurnError.{TurnError}
+use Rattle.turns.specs.Turns.{IsTurned, Offers, Refuses, RefusesFor, Took}
+use Rattle.turns.specs.declared.work.Work.{Work}
+use Rattle.turns.specs.declared.work.Work.TheVariants as work
 use Rattle.operator.specs.Answers.{IsDone, IsFollowed, IsRefreshed, IsRefusedOnce, IsServed}
 use Rattle.operator.specs.Answers.{Wanted, learnt}
 

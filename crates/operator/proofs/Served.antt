@@ -4,10 +4,10 @@ use Rattle.std.proofs.Common.{Result, Ok, Err, String, Global, ap, refl, sym, su
 use Rattle.std.specs.Prelude.{MatchResult, OnErr, OnOk}
 use mathlib.Core.List.{IsPrefix}
 use Rattle.hooks.proofs.Fronts.{prefix_self}
-use Rattle.worker.specs.Askers.{AskerState}
+use Rattle.turns.specs.Askers.{AskerState}
 use Rattle.worker.specs.Lives.{Senses, Standing, standing}
-use Rattle.worker.specs.Work.{Work}
-use Rattle.worker.specs.Work.TheVariants as work
+use Rattle.turns.specs.declared.work.Work.{Work}
+use Rattle.turns.specs.declared.work.Work.TheVariants as work
 use Rattle.console.specs.Commands.{LineAsks}
 use Rattle.console.specs.declared.command.Command.{Command}
 use Rattle.console.specs.declared.command.Command.TheVariants as commands

@@ -12,14 +12,14 @@ use Rattle.verifier.specs.Programs.{Program}
 use Rattle.verifier.specs.Verdicts.{Accepts}
 use Rattle.hooks.specs.declared.operation.LoaderOperation.{LoaderOperation}
 use Rattle.hooks.specs.declared.operation.LoaderOperation.TheVariants.{Attach, Detach}
-use Rattle.worker.specs.Numbers.{turn_error_number}
-use Rattle.worker.specs.Askers.{AskerState, IsLater}
+use Rattle.turns.specs.Numbers.{turn_error_number}
+use Rattle.turns.specs.Askers.{AskerState, IsLater}
 use Rattle.worker.specs.Lives.{Senses, Serves, Standing}
-use Rattle.worker.specs.TurnOutcome.{TurnOutcome}
-use Rattle.worker.specs.TurnError.{TurnError}
-use Rattle.worker.specs.Turns.{IsTurned, Offers, Refuses, RefusesFor, Took}
-use Rattle.worker.specs.Work.{Work}
-use Rattle.worker.specs.Work.TheVariants as work
+use Rattle.turns.specs.declared.turned.TurnOutcome.{TurnOutcome}
+use Rattle.turns.specs.declared.turned.TurnError.{TurnError}
+use Rattle.turns.specs.Turns.{IsTurned, Offers, Refuses, RefusesFor, Took}
+use Rattle.turns.specs.declared.work.Work.{Work}
+use Rattle.turns.specs.declared.work.Work.TheVariants as work
 use Rattle.console.specs.Commands.{LineAsks}
 use Rattle.console.specs.declared.command.Command.{Command}
 use Rattle.console.specs.declared.command.Command.TheVariants as commands

@@ -3,8 +3,8 @@ use Rattle.std.specs.Prelude.{◌≡◌, ℕ, ◌≤◌, Bool, true, false, List
 use mathlib.Core.List.{IsPrefix}
 use Rattle.hooks.specs.declared.operation.LoaderOperation.{LoaderOperation}
 use Rattle.worker.specs.Lives.{Senses, Standing}
-use Rattle.worker.specs.Work.{Work}
-use Rattle.worker.specs.Work.TheVariants as work
+use Rattle.turns.specs.declared.work.Work.{Work}
+use Rattle.turns.specs.declared.work.Work.TheVariants as work
 use Rattle.console.specs.Commands.{LineAsks}
 use Rattle.console.specs.declared.command.Command.{Command}
 use Rattle.console.specs.declared.command.Command.TheVariants as commands

@@ -10,9 +10,9 @@ use Rattle.adjacency.specs.declared.state.NeighborState.{NeighborState}
 use Rattle.routes.specs.Parts.{Ascend}
 use Rattle.routes.specs.Rows.{rows_of}
 use Rattle.event_rules.specs.Routers.{Router}
-use Rattle.worker.specs.Offers.{IsTableNow}
-use Rattle.worker.specs.Replay.{IsAfterEvents}
-use Rattle.worker.specs.Turns.{IsOfferedBySome, Offers}
+use Rattle.flood.specs.Offers.{IsTableNow}
+use Rattle.flood.specs.Replay.{IsAfterEvents}
+use Rattle.turns.specs.Turns.{IsOfferedBySome, Offers}
 use Rattle.console.specs.Answers.{counters_text, neighbors_text, table_text}
 
 -- routes that all stand in a list, both in the order of their prefixes

@@ -1,10 +1,10 @@
 //! Lines in, answers out, at port 0.
 ghost use Rattle.std.specs.Prelude.{◌≡◌, ℕ, Bool};
 ghost use Rattle.hooks.specs.Known.{loader_history, operations_of};
-ghost use Rattle.worker.specs.Askers.{AskerState, IsLater, asker_state};
+ghost use Rattle.turns.specs.Askers.{AskerState, IsLater, asker_state};
 ghost use Rattle.worker.specs.Lives.{senses_of, standing};
-ghost use Rattle.worker.specs.Turns.{IsListed};
-ghost use Rattle.worker.specs.Work.TheVariants as work;
+ghost use Rattle.turns.specs.Turns.{IsListed};
+ghost use Rattle.turns.specs.declared.work.Work.TheVariants as work;
 ghost use Rattle.operator.specs.Answers.{
   IsAnswerToAdd,
   IsAnswerToAttach,

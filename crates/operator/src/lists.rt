@@ -3,7 +3,7 @@ ghost use Rattle.std.specs.Prelude.{◌≡◌, List, IfOk, MatchResult, OnErr, s
 ghost use Rattle.words.specs.declared.route.Route.{Route};
 ghost use Rattle.routes.specs.Rows.{rows_of};
 ghost use Rattle.hooks.specs.Known.{known_to};
-ghost use Rattle.worker.specs.Turns.{IsListed};
+ghost use Rattle.turns.specs.Turns.{IsListed};
 ghost use Rattle.operator.specs.Shown.{HasReadSome, IsCountersText, IsPartOf, ShowsNeighbors};
 ghost use Rattle.operator.specs.Shown.{ShowsTable};
 ghost use Rattle.operator.specs.declared.reply.Reply.TheVariants as reply;

@@ -1,6 +1,6 @@
 //! Where port 0 sends.
 ghost use Rattle.std.specs.Prelude.{◌≡◌, ◌≤◌, IfErr, OnErr, OnOk};
-ghost use Rattle.worker.specs.Askers.{IsLater, asker_state};
+ghost use Rattle.turns.specs.Askers.{IsLater, asker_state};
 ghost use Rattle.worker.specs.Lives.{IsSent, senses_of, standing};
 ghost use Rattle.operator.specs.Answers.{IsDone, IsRefusedOnce, IsServed};
 

@@ -1,7 +1,7 @@
 //! What a line of the console is answered.
 ghost use Rattle.std.specs.Prelude.{◌≡◌};
 ghost use Rattle.operator.specs.declared.reply.Reply.TheVariants as reply;
-ghost use Rattle.worker.specs.Numbers.{turn_error_number};
+ghost use Rattle.turns.specs.Numbers.{turn_error_number};
 
 use isa::Hook;
 use std::fmt;

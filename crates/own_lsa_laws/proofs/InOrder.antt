@@ -2,7 +2,7 @@
 use Rattle.std.proofs.Common.{◌≡◌, inl, inr, ℕ, zero, suc, List, [], ◌∷◌, ◌++◌, map, Option, Some}
 use Rattle.std.proofs.Common.{None, refl, sym, subst, ap, ◌∙◌}
 use Rattle.std.proofs.lemmas.List.{append-nil, append_assoc, map-append}
-use Rattle.worker.specs.Work.TheVariants.{Datagram, Tick}
+use Rattle.turns.specs.declared.work.Work.TheVariants.{Datagram, Tick}
 use Rattle.worker.specs.Lives.{IsHandled, Listens, Lives, Reads, Senses, Standing, Ticks}
 use Rattle.own_lsa_laws.specs.Deeds.{Deed, DoesEach, EachMayFollow, IsLookingAfter}
 use Rattle.own_lsa_laws.specs.Deeds.{LivesAreDeedsInOrder, MayFollow, given, given_by, heard}

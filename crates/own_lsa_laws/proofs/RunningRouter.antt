@@ -10,8 +10,8 @@ use Rattle.event_rules.specs.Clocks.{ClockRunsOn, RoutersRefuseClocksThatGoBack}
 use Rattle.own_lsa_laws.specs.OwnCopies.{EndsWithTick, NobodySpeaksForThisRouter, SpeaksForItself}
 use Rattle.flood.specs.declared.event.Event.{Event}
 use Rattle.flood.specs.declared.event.Event.TheVariants as event
-use Rattle.worker.specs.Replay.{IsAfterEvents}
-use Rattle.worker.specs.Turns.{IsTakenBySome}
+use Rattle.flood.specs.Replay.{IsAfterEvents}
+use Rattle.turns.specs.Turns.{IsTakenBySome}
 use Rattle.own_lsa_laws.specs.RunningRouter.{IsTicked, NobodySpeaksForTheRunningRouter}
 
 from_start : RoutersRefuseClocksThatGoBack → (c : Config) (steps : List Step)

@@ -1,7 +1,7 @@
 -- What a worker does, one thing after the other, and in which order: said without its rounds.
 use Rattle.std.specs.Prelude.{◌≡◌, ◌≢◌, ◌⊎◌, ℕ, List, [], ◌∷◌, ◌++◌, map, Option, Some, None}
-use Rattle.worker.specs.Work.{Work}
-use Rattle.worker.specs.Work.TheVariants.{Add, Datagram, Down, Refresh, Tick, Withdraw}
+use Rattle.turns.specs.declared.work.Work.{Work}
+use Rattle.turns.specs.declared.work.Work.TheVariants.{Add, Datagram, Down, Refresh, Tick, Withdraw}
 use Rattle.worker.specs.Lives.{Lives, Reads, Senses, Serves, Standing}
 
 -- ---- one after the other

@@ -4,17 +4,17 @@ use Rattle.std.specs.Prelude.{ℕ, ◌+◌, ◌≤◌, Bool, List, Option}
 use Rattle.words.specs.Constants.{min_ls_interval}
 use Rattle.words.specs.Numbers.{Moment}
 use Rattle.words.specs.declared.key.Key.{Key}
-use Rattle.event_rules.specs.received.lsdb.Copies.{DatabaseCopy}
+use Rattle.lsdb.specs.Copies.{DatabaseCopy}
 use Rattle.event_rules.specs.declared.model.Config.{Config}
 use Rattle.event_rules.specs.declared.model.Out.{Out}
 use Rattle.event_rules.specs.Events.{Happens, initial}
 use Rattle.event_rules.specs.Routers.{Occurrence, Router}
 use Rattle.own_lsa_laws.specs.OwnCopies.{HasWantedBody, IsSelfOriginated, SpeaksForItself}
 use Rattle.own_lsa_laws.specs.OwnCopies.{SpeaksForItselfAfterTick}
-use Rattle.worker.specs.Askers.{AskerState}
-use Rattle.worker.specs.Replay.{IsAfterEvents}
-use Rattle.worker.specs.Turns.{IsOfferedBySome, TakesFor, refuses_from, took_from}
-use Rattle.worker.specs.Work.TheVariants.{Tick}
+use Rattle.turns.specs.Askers.{AskerState}
+use Rattle.flood.specs.Replay.{IsAfterEvents}
+use Rattle.turns.specs.Turns.{IsOfferedBySome, TakesFor, refuses_from, took_from}
+use Rattle.turns.specs.declared.work.Work.TheVariants.{Tick}
 
 -- A Tick at this moment sent these, at a router to which events lead from the one that is made of
 -- the configuration. It left a router in which only MinLSInterval prevents that a copy in its name

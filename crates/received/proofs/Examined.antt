@@ -1,6 +1,6 @@
 -- Flooding in the words of section 13.3.
 use Rattle.std.proofs.Common.{◌≡◌, ℕ, Bool, true, false, [], Option, Some, refl}
-use Rattle.adjacency.specs.lsdb.Headers.{Lsa, lsa_key}
+use Rattle.lsdb.specs.Headers.{Lsa, lsa_key}
 use Rattle.adjacency.specs.Neighbors.{Neighbor}
 use Rattle.received.specs.Flooding.{flood_to}
 use Rattle.received.specs.Laws.{DropsRequest, FloodingExaminesEachNeighbor, Requests}

@@ -5,10 +5,10 @@ use Rattle.std.specs.FinMap as finite
 use Rattle.std.specs.Ordering.{is_eq}
 use Rattle.std.specs.declared.cmp.Ordering.{Ordering}
 use Rattle.words.specs.declared.key.Key.{Key}
-use Rattle.adjacency.specs.lsdb.Headers.{Lsa, lsa_key}
-use Rattle.adjacency.specs.lsdb.Instances.{ListEntry}
-use Rattle.adjacency.specs.lsdb.Keys.{ByKey}
-use Rattle.adjacency.proofs.lsdb.Keys.{keys_total}
+use Rattle.lsdb.specs.Headers.{Lsa, lsa_key}
+use Rattle.lsdb.specs.Instances.{ListEntry}
+use Rattle.lsdb.specs.Keys.{ByKey}
+use Rattle.lsdb.proofs.Keys.{keys_total}
 use Rattle.adjacency.specs.Contents.{Step, Updates, no_sends}
 use Rattle.adjacency.specs.Neighbors.{Neighbor}
 use Rattle.adjacency.specs.Retransmissions.{add_retransmission, remove_retransmission}

@@ -4,8 +4,8 @@ use Rattle.std.proofs.Common.{◌≡◌, ℕ, zero, suc, ◌+◌, ◌==◌, true
 use Rattle.std.proofs.Common.{None, Some}
 use Rattle.std.specs.Prelude.{slice_get}
 use Rattle.std.specs.List.{enumerate_from}
-use Rattle.adjacency.specs.lsdb.Headers.{Lsa, lsa_key}
-use Rattle.adjacency.specs.lsdb.Copies.{DatabaseCopy, install_flooded}
+use Rattle.lsdb.specs.Headers.{Lsa, lsa_key}
+use Rattle.lsdb.specs.Copies.{DatabaseCopy, install_flooded}
 use Rattle.adjacency.specs.Adjacencies.{mismatch_step}
 use Rattle.adjacency.specs.Contents.{Step, Updates, no_sends}
 use Rattle.adjacency.specs.Neighbors.{Neighbor, is_exchange_or_later}

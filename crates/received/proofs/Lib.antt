@@ -5,6 +5,3 @@ pub mod Roomy
 pub mod Told
 pub mod Examined
 pub mod Marks
--- names from the crates below that crates above use
-pub use Rattle.adjacency.proofs as adjacency
-pub use Rattle.adjacency.proofs.lsdb as lsdb

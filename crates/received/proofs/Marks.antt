@@ -7,10 +7,10 @@ use Rattle.std.specs.Ordering.{eq_by_cmp, is_eq}
 use Rattle.std.specs.declared.cmp.Ordering.{Ordering}
 use Rattle.std.specs.declared.cmp.Ordering.TheVariants.{Less, Equal, Greater}
 use Rattle.words.specs.declared.key.Key.{Key}
-use Rattle.adjacency.specs.lsdb.Copies.{Database, DatabaseCopy, mark_sent}
-use Rattle.adjacency.specs.lsdb.Headers.{lsa_key}
-use Rattle.adjacency.specs.lsdb.Keys.{key_cmp}
-use Rattle.adjacency.proofs.lsdb.Keys.{keys_total}
+use Rattle.lsdb.specs.Copies.{Database, DatabaseCopy, mark_sent}
+use Rattle.lsdb.specs.Headers.{lsa_key}
+use Rattle.lsdb.specs.Keys.{key_cmp}
+use Rattle.lsdb.proofs.Keys.{keys_total}
 use Rattle.adjacency.specs.Contents.{Content}
 use Rattle.adjacency.proofs.Maps.{IfThere, OfEntry, entries_in}
 use Rattle.received.specs.AreaStates.{Send, marked_database}

@@ -8,10 +8,10 @@ use Rattle.std.specs.Ordering.{eq_by_cmp}
 use Rattle.std.proofs.lemmas.List.{length-map}
 use Rattle.std.proofs.lemmas.List.FromFn.{length-enumerate_from}
 use Rattle.words.specs.declared.key.Key.{Key}
-use Rattle.adjacency.specs.lsdb.Copies.{Database, DatabaseCopy, install_flooded, lsa_now}
-use Rattle.adjacency.specs.lsdb.Headers.{Lsa, lsa_key}
-use Rattle.adjacency.specs.lsdb.Keys.{key_cmp}
-use Rattle.adjacency.proofs.lsdb.Keys.{keys_total}
+use Rattle.lsdb.specs.Copies.{Database, DatabaseCopy, install_flooded, lsa_now}
+use Rattle.lsdb.specs.Headers.{Lsa, lsa_key}
+use Rattle.lsdb.specs.Keys.{key_cmp}
+use Rattle.lsdb.proofs.Keys.{keys_total}
 use Rattle.adjacency.specs.Adjacencies.{mismatch_step}
 use Rattle.adjacency.specs.Contents.{Acknowledges, Content, Step, Updates, no_sends}
 use Rattle.adjacency.specs.Neighbors.{Neighbor, is_exchange_or_later}

@@ -7,8 +7,8 @@ use Rattle.std.specs.Prelude.{slice_get}
 use Rattle.std.specs.FinMap as finite
 use Rattle.std.specs.List.{AllByRecursion, enumerate_from, flat_map, fold}
 use Rattle.words.specs.declared.key.Key.{Key}
-use Rattle.adjacency.specs.lsdb.Copies.{Database, DatabaseCopy, install_flooded, lsa_now}
-use Rattle.adjacency.specs.lsdb.Headers.{Header, Lsa, key_of, lsa_key}
+use Rattle.lsdb.specs.Copies.{Database, DatabaseCopy, install_flooded, lsa_now}
+use Rattle.lsdb.specs.Headers.{Header, Lsa, key_of, lsa_key}
 use Rattle.adjacency.specs.Adjacencies.{mismatch_step}
 use Rattle.adjacency.specs.Contents.{Acknowledges, Content, Step, Updates, no_sends}
 use Rattle.adjacency.specs.Neighbors.{Neighbor, is_exchange_or_later}

@@ -4,8 +4,8 @@ use Rattle.std.specs.Prelude.{◌≡◌, ℤ, pos, Bool, true, false, Option, So
 use Rattle.words.specs.Constants.{max_age, max_sequence_number}
 use Rattle.words.specs.Numbers.{Moment, Seconds}
 use Rattle.lsa.specs.declared.body.LsaBody.{LsaBody}
-use Rattle.adjacency.specs.lsdb.Copies.{DatabaseCopy}
-use Rattle.adjacency.specs.lsdb.Headers.{Lsa, lsa_key}
+use Rattle.lsdb.specs.Copies.{DatabaseCopy}
+use Rattle.lsdb.specs.Headers.{Lsa, lsa_key}
 use Rattle.adjacency.specs.Neighbors.{Neighbor}
 use Rattle.received.specs.Cases.{Case, case_of_readable}
 use Rattle.adjacency.specs.Asked.{is_on_request_list, has_retransmission_of}

@@ -6,10 +6,10 @@ use Rattle.std.specs.FinMap as finite
 use Rattle.std.specs.FinMap.Entries.{below_all, is_sorted}
 use Rattle.std.specs.Ordering.{eq_by_cmp}
 use Rattle.words.specs.declared.key.Key.{Key}
-use Rattle.area.specs.lsdb.Copies.{Database, DatabaseCopy, max_age_keys, is_aged_out}
-use Rattle.area.specs.lsdb.Keys.{key_cmp}
-use Rattle.area.proofs.lsdb.Keys.{absent, equal, first, keys_exact, keys_total, second}
-use Rattle.area.specs.received.Links.{Area, Link, any_has_retransmission}
+use Rattle.lsdb.specs.Copies.{Database, DatabaseCopy, max_age_keys, is_aged_out}
+use Rattle.lsdb.specs.Keys.{key_cmp}
+use Rattle.lsdb.proofs.Keys.{absent, equal, first, keys_exact, keys_total, second}
+use Rattle.received.specs.Links.{Area, Link, any_has_retransmission}
 use Rattle.event_rules.specs.Endings.{stays, stays_as}
 use Rattle.area.specs.Links.{without_acknowledged}
 use Rattle.router.specs.Aging.{without_each}

@@ -8,8 +8,8 @@ use Rattle.std.specs.Ordering.{eq_by_cmp}
 use Rattle.words.specs.Numbers.{RouterNumber}
 use Rattle.words.specs.declared.key.Key.{Key}
 use Rattle.words.specs.declared.route.External.{External}
-use Rattle.area.specs.lsdb.Keys.{ByKey, key_cmp}
-use Rattle.area.proofs.lsdb.Keys.{equal, keys_exact, keys_total}
+use Rattle.lsdb.specs.Keys.{ByKey, key_cmp}
+use Rattle.lsdb.proofs.Keys.{equal, keys_exact, keys_total}
 use Rattle.router.specs.Owned.{AreOwn, IsWithItsKey}
 
 value_or : External → Option External → External

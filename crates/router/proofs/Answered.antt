@@ -1,8 +1,8 @@
 -- The result of a call on links and database, as a part of an event: `shown` is the router from its
 -- fields.
 use Rattle.std.proofs.Common.{◌≡◌, [], Result, Ok, Err, OnOk, sym, ap, ◌∙◌}
-use Rattle.area.specs.received.Links.{Area}
-use Rattle.area.specs.received.AreaStates.{AreaState}
+use Rattle.received.specs.Links.{Area}
+use Rattle.received.specs.AreaStates.{AreaState}
 use Rattle.event_rules.specs.EventState.{EventState, on_area}
 use Rattle.area.specs.Doing.{AreaDoes}
 use Rattle.area.specs.Drafted.{drafts_with, nothing_at}

@@ -2,9 +2,9 @@
 use Rattle.std.proofs.Common.{◌≡◌, ℕ, ◌+◌, ◌==◌, Bool, true, false, cond, List, [], ◌∷◌, map}
 use Rattle.std.proofs.Common.{refl, sym, ap, ◌∙◌, append_assoc}
 use Rattle.std.specs.List.{enumerate_from}
-use Rattle.area.specs.received.Links.{Link, change_link}
-use Rattle.area.specs.received.AreaStates.{AreaState, Stepping, each_neighbor, on_links}
-use Rattle.area.specs.received.AreaStates.{step_on}
+use Rattle.received.specs.Links.{Link, change_link}
+use Rattle.received.specs.AreaStates.{AreaState, Stepping, each_neighbor, on_links}
+use Rattle.received.specs.AreaStates.{step_on}
 use Rattle.area.specs.Links.{with_no_sends}
 use Rattle.area.proofs.Sends.{append_none}
 use Rattle.router.specs.Aging.{outcomes_in_turn}

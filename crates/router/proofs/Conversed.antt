@@ -4,17 +4,17 @@ use Rattle.std.proofs.Common.{◌≡◌, ℕ, Bool, true, false, cond, List, map
 use Rattle.std.specs.Prelude.{Option, None, Some}
 use Rattle.std.specs.List.{list_all}
 use Rattle.words.specs.declared.key.Key.{Key}
-use Rattle.area.specs.lsdb.Copies.{Database}
-use Rattle.area.specs.lsdb.Headers.{Header}
+use Rattle.lsdb.specs.Copies.{Database}
+use Rattle.lsdb.specs.Headers.{Header}
 use Rattle.packet.specs.declared.model.Description.{Description}
 use Rattle.packet.specs.declared.model.Hello.{Hello}
-use Rattle.area.specs.adjacency.Adjacencies as adjacencies
-use Rattle.area.specs.adjacency.Adjacencies.{mismatch_step}
-use Rattle.area.specs.adjacency.Contents.{Step, Updates, no_sends}
-use Rattle.area.specs.adjacency.Descriptions.{after_description}
-use Rattle.area.specs.adjacency.Retransmissions.{after_acknowledgment}
-use Rattle.area.specs.received.Links.{Area, Link, link_at}
-use Rattle.area.specs.received.AreaStates.{AreaState, sends_at, one_neighbor, only_at, sending}
+use Rattle.adjacency.specs.Adjacencies as adjacencies
+use Rattle.adjacency.specs.Adjacencies.{mismatch_step}
+use Rattle.adjacency.specs.Contents.{Step, Updates, no_sends}
+use Rattle.adjacency.specs.Descriptions.{after_description}
+use Rattle.adjacency.specs.Retransmissions.{after_acknowledgment}
+use Rattle.received.specs.Links.{Area, Link, link_at}
+use Rattle.received.specs.AreaStates.{AreaState, sends_at, one_neighbor, only_at, sending}
 use Rattle.event_rules.specs.Hellos.{accepts, names}
 use Rattle.event_rules.specs.Packets.{accept_hello, receive_acknowledgment, receive_description}
 use Rattle.event_rules.specs.Packets.{receive_hello, receive_hello_on}

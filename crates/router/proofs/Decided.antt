@@ -2,8 +2,8 @@
 use Rattle.std.proofs.Common.{◌≡◌, ℕ, Bool, true, false, cond, ◌&&◌, Option, refl}
 use Rattle.std.specs.FinMap as finite
 use Rattle.words.specs.declared.key.Key.{Key}
-use Rattle.area.specs.lsdb.Copies.{DatabaseCopy}
-use Rattle.area.specs.lsdb.Headers.{Lsa}
+use Rattle.lsdb.specs.Copies.{DatabaseCopy}
+use Rattle.lsdb.specs.Headers.{Lsa}
 use Rattle.event_rules.specs.EventState.{EventState, on_router}
 use Rattle.event_rules.specs.Originations.{flush, has_max_sequence, may_originate, new_instance}
 use Rattle.event_rules.specs.Originations.{postpone}

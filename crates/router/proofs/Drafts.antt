@@ -2,11 +2,11 @@
 use Rattle.std.proofs.Common.{◌≡◌, ℕ, ◌+◌, List, [], ◌∷◌, ◌++◌}
 use Rattle.std.proofs.Common.{refl, sym, ap, ◌∙◌}
 use Rattle.std.specs.List.{filter_map}
-use Rattle.area.specs.adjacency.Contents.{Content}
-use Rattle.area.specs.adjacency.Drafts.{Drafted, adds, drafting}
-use Rattle.area.specs.adjacency.declared.interface.Interface.{Interface}
-use Rattle.area.specs.received.Links.{Link}
-use Rattle.area.specs.received.AreaStates.{Send, at_interface}
+use Rattle.adjacency.specs.Contents.{Content}
+use Rattle.adjacency.specs.Drafts.{Drafted, adds, drafting}
+use Rattle.adjacency.specs.declared.interface.Interface.{Interface}
+use Rattle.received.specs.Links.{Link}
+use Rattle.received.specs.AreaStates.{Send, at_interface}
 use Rattle.area.specs.Drafted.{drafts_with, drafted_from}
 use Rattle.area.proofs.Sends.{picked_append}
 use Rattle.router.specs.Making.{interfaces_of}

@@ -6,7 +6,7 @@ use Rattle.words.specs.declared.key.Key.{Key}
 use Rattle.words.specs.declared.route.External.{External}
 use Rattle.words.specs.declared.route.Route.{Route}
 use Rattle.keyed_map.proofs.Helds.{on_ok}
-use Rattle.area.specs.lsdb.Keys.{ByKey, KeySet}
+use Rattle.lsdb.specs.Keys.{ByKey, KeySet}
 use Rattle.event_rules.specs.Commands.{after_install, announce, unannounce}
 use Rattle.event_rules.specs.EventState.{on_router}
 use Rattle.event_rules.specs.Originations.{as_originated, forget_originations, is_recent, postpone}

@@ -1,12 +1,12 @@
 -- Expired timers of a link, and the end of Loading, as the definitions of an event say.
 use Rattle.std.proofs.Common.{◌≡◌, ℕ, refl, ap}
 use Rattle.std.specs.Prelude.{Option, None, Some}
-use Rattle.area.specs.adjacency.Adjacencies.{after_inactivity_timer, loading_done}
-use Rattle.area.specs.adjacency.Contents.{no_sends, step_on}
-use Rattle.area.specs.adjacency.Descriptions.{without_old_description}
-use Rattle.area.specs.adjacency.Neighbors.{Neighbor}
-use Rattle.area.specs.adjacency.Timers as neighbor
-use Rattle.area.specs.received.Links.{Link}
+use Rattle.adjacency.specs.Adjacencies.{after_inactivity_timer, loading_done}
+use Rattle.adjacency.specs.Contents.{no_sends, step_on}
+use Rattle.adjacency.specs.Descriptions.{without_old_description}
+use Rattle.adjacency.specs.Neighbors.{Neighbor}
+use Rattle.adjacency.specs.Timers as neighbor
+use Rattle.received.specs.Links.{Link}
 use Rattle.area.specs.Links.{with_neighbor}
 use Rattle.event_rules.specs.Endings.{link_loading_done, loading_done_on}
 use Rattle.event_rules.specs.Ticks.{expire_timers, settled_exchange}

@@ -8,8 +8,8 @@ use Rattle.std.specs.FinMap.Entries.{below_all, is_sorted}
 use Rattle.std.specs.Ordering.{eq_by_cmp}
 use Rattle.words.specs.declared.key.Key.{Key}
 use Rattle.keyed_map.specs.Slots.{keys_where}
-use Rattle.area.specs.lsdb.Keys.{ByKey, key_cmp}
-use Rattle.area.proofs.lsdb.Keys.{absent, equal, first, keys_exact, keys_total, second}
+use Rattle.lsdb.specs.Keys.{ByKey, key_cmp}
+use Rattle.lsdb.proofs.Keys.{absent, equal, first, keys_exact, keys_total, second}
 use Rattle.event_rules.specs.Originations.{interval_is_over, is_recent}
 
 module _ {X : Type 0} where

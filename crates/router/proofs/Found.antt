@@ -6,8 +6,8 @@ use Rattle.words.specs.declared.key.Key.{Key}
 use Rattle.words.specs.declared.route.External.{External}
 use Rattle.keyed_map.specs.Keys.{same_key}
 use Rattle.lsa.specs.declared.body.LsaBody.{LsaBody}
-use Rattle.area.specs.adjacency.lsdb.Copies.{Database}
-use Rattle.event_rules.specs.received.Links.{Link}
+use Rattle.lsdb.specs.Copies.{Database}
+use Rattle.received.specs.Links.{Link}
 use Rattle.event_rules.specs.EventState.{EventState}
 use Rattle.event_rules.specs.Originations.{announced_body, external_body, external_key}
 use Rattle.event_rules.specs.Originations.{originate_body}
@@ -18,7 +18,7 @@ use Rattle.router.specs.Decisions.{after_origination, origination}
 use Rattle.router.specs.declared.origination.Origination.{Origination}
 use Rattle.router.specs.Owned.{AreOwn}
 use Rattle.router.specs.Wanted.{originate_if_wanted, wanted_origination}
-use Rattle.area.proofs.lsdb.Keys.{tied}
+use Rattle.lsdb.proofs.Keys.{tied}
 
 -- ---- which LSAs are wanted
 

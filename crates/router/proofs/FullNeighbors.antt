@@ -17,11 +17,11 @@ use Rattle.lsa.specs.declared.body.LsaBody.TheVariants as body
 use Rattle.lsa.specs.declared.body.LinkKind.TheVariants.{PointToPoint}
 use Rattle.lsa.specs.declared.body.RouterLink.{RouterLink}
 use Rattle.area.specs.Kept.{KeptLink}
-use Rattle.area.specs.adjacency.Drafts.{nothing_drafted}
-use Rattle.area.specs.adjacency.Neighbors.{Neighbor, fresh, is_full}
-use Rattle.area.specs.adjacency.declared.interface.Interface.{Interface}
-use Rattle.area.specs.adjacency.declared.state.NeighborState.TheVariants.{Full}
-use Rattle.area.specs.received.Links.{Link}
+use Rattle.adjacency.specs.Drafts.{nothing_drafted}
+use Rattle.adjacency.specs.Neighbors.{Neighbor, fresh, is_full}
+use Rattle.adjacency.specs.declared.interface.Interface.{Interface}
+use Rattle.adjacency.specs.declared.state.NeighborState.TheVariants.{Full}
+use Rattle.received.specs.Links.{Link}
 use Rattle.event_rules.specs.Endings.{links_differ, same_body}
 use Rattle.event_rules.specs.Originations.{links_of, point_to_point, router_body, stub}
 use Rattle.area.specs.Links.{present}

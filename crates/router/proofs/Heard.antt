@@ -3,15 +3,15 @@ use Rattle.std.proofs.Common.{◌≡◌, ℕ, Bool, true, false, cond, List, Res
 use Rattle.std.specs.Prelude.{◌&&◌, ◌||◌, Option, None, Some}
 use mathlib.Core.Bool.{false≢true}
 use Rattle.words.specs.declared.key.Key.{Key}
-use Rattle.area.specs.adjacency.lsdb.Headers.{Header}
+use Rattle.lsdb.specs.Headers.{Header}
 use Rattle.packet.specs.declared.model.PacketBody.{PacketBody}
 use Rattle.packet.specs.declared.model.PacketBody.TheVariants as body
 use Rattle.packet.specs.declared.model.Description.{Description}
 use Rattle.packet.specs.declared.model.Hello.{Hello}
 use Rattle.packet.specs.declared.model.Packet.{Packet}
-use Rattle.area.specs.adjacency.Neighbors.{Neighbor}
-use Rattle.area.specs.adjacency.Steps.{named_neighbor}
-use Rattle.event_rules.specs.received.Links.{neighbor_at}
+use Rattle.adjacency.specs.Neighbors.{Neighbor}
+use Rattle.adjacency.specs.Steps.{named_neighbor}
+use Rattle.received.specs.Links.{neighbor_at}
 use Rattle.event_rules.specs.EventState.{EventState, on_area}
 use Rattle.event_rules.specs.Packets.{after_lsas, after_packet, receive_acknowledgment}
 use Rattle.event_rules.specs.Packets.{receive_hello}

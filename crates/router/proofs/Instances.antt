@@ -3,8 +3,8 @@ use Rattle.std.proofs.Common.{◌≡◌, ℤ, Bool, true, false, cond, Option, N
 use Rattle.words.specs.declared.key.Key.{Key}
 use Rattle.lsa.specs.Origination.{sealed_lsa}
 use Rattle.lsa.specs.declared.body.LsaBody.{LsaBody}
-use Rattle.area.specs.lsdb.Copies.{DatabaseCopy}
-use Rattle.area.specs.lsdb.Headers.{Lsa}
+use Rattle.lsdb.specs.Copies.{DatabaseCopy}
+use Rattle.lsdb.specs.Headers.{Lsa}
 use Rattle.event_rules.specs.Originations.{has_max_sequence, new_instance, next_sequence}
 use Rattle.router.specs.Instances.{next_instance, next_number}
 

@@ -8,22 +8,22 @@ use Rattle.std.specs.FinMap as finite
 use mathlib.Core.Bool.{false≢true}
 use Rattle.words.specs.Constants.{max_age}
 use Rattle.words.specs.declared.key.Key.{Key}
-use Rattle.area.specs.lsdb.Headers.{Lsa, lsa_with_age, lsa_key}
-use Rattle.area.specs.lsdb.Copies.{DatabaseCopy, age_prematurely, has_just_aged_out}
-use Rattle.area.specs.lsdb.Copies.{is_aged_out}
-use Rattle.area.specs.lsdb.Copies.{lsa_now}
-use Rattle.area.specs.adjacency.Adjacencies.{mismatch_step}
-use Rattle.area.specs.adjacency.Contents.{no_sends}
-use Rattle.area.specs.adjacency.Requests.{request_next}
-use Rattle.area.specs.adjacency.Retransmissions.{remove_retransmission}
-use Rattle.area.specs.received.Cases.{Case}
-use Rattle.area.specs.received.Flooding.{flood_to}
-use Rattle.area.specs.received.Links.{Area, any_exchange_or_loading, delay_acknowledgment}
-use Rattle.area.specs.received.Links.{change_link}
-use Rattle.area.specs.received.AreaStates.{AreaState, on_database, on_links, only_at}
-use Rattle.area.specs.received.AreaStates.{stepped_links}
-use Rattle.area.specs.received.Updates.{after_case, database_copy, flood_and_install}
-use Rattle.area.specs.received.Updates.{send_copy}
+use Rattle.lsdb.specs.Headers.{Lsa, lsa_with_age, lsa_key}
+use Rattle.lsdb.specs.Copies.{DatabaseCopy, age_prematurely, has_just_aged_out}
+use Rattle.lsdb.specs.Copies.{is_aged_out}
+use Rattle.lsdb.specs.Copies.{lsa_now}
+use Rattle.adjacency.specs.Adjacencies.{mismatch_step}
+use Rattle.adjacency.specs.Contents.{no_sends}
+use Rattle.adjacency.specs.Requests.{request_next}
+use Rattle.adjacency.specs.Retransmissions.{remove_retransmission}
+use Rattle.received.specs.Cases.{Case}
+use Rattle.received.specs.Flooding.{flood_to}
+use Rattle.received.specs.Links.{Area, any_exchange_or_loading, delay_acknowledgment}
+use Rattle.received.specs.Links.{change_link}
+use Rattle.received.specs.AreaStates.{AreaState, on_database, on_links, only_at}
+use Rattle.received.specs.AreaStates.{stepped_links}
+use Rattle.received.specs.Updates.{after_case, database_copy, flood_and_install}
+use Rattle.received.specs.Updates.{send_copy}
 use Rattle.event_rules.specs.Commands.{after_link_down, taken_down}
 use Rattle.event_rules.specs.Endings.{link_loading_done, remove_aged, request_all, stays}
 use Rattle.event_rules.specs.Endings.{flood_aged, flood_if_aged}

@@ -29,5 +29,3 @@ pub mod KeyOrder
 pub mod Packs
 pub mod Drafted
 pub mod Whole
--- names from the crates below that crates above use
-pub use Rattle.area.proofs as flooding

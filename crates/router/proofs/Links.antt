@@ -8,8 +8,8 @@ use Rattle.lsa.specs.Text.{body_text}
 use Rattle.lsa.specs.declared.body.LsaBody.{LsaBody}
 use Rattle.lsa.specs.declared.body.LinkKind.TheVariants.{PointToPoint}
 use Rattle.area.specs.Kept.{KeptLink}
-use Rattle.area.specs.adjacency.Neighbors.{Neighbor, is_full}
-use Rattle.area.specs.received.Links.{Link}
+use Rattle.adjacency.specs.Neighbors.{Neighbor, is_full}
+use Rattle.received.specs.Links.{Link}
 use Rattle.event_rules.specs.Originations.{links_of, point_to_point, router_body, stub}
 use Rattle.event_rules.proofs.Fitting.{router_few}
 use Rattle.event_rules.proofs.Rooms.{both}

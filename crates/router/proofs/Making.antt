@@ -3,9 +3,9 @@ use Rattle.std.proofs.Common.{◌≡◌, Bool, true, false, cond, List, [], ◌+
 use Rattle.std.proofs.Common.{IsErr, refl, sym, ap, subst, ◌∙◌}
 use Rattle.std.proofs.lemmas.List.{length-map}
 use Rattle.keyed_map.proofs.Helds.{on_ok}
-use Rattle.area.specs.adjacency.Drafts.{Drafted}
-use Rattle.area.specs.received.Links.{Area, Link}
-use Rattle.area.specs.received.AreaStates.{AreaState}
+use Rattle.adjacency.specs.Drafts.{Drafted}
+use Rattle.received.specs.Links.{Area, Link}
+use Rattle.received.specs.AreaStates.{AreaState}
 use Rattle.event_rules.specs.EventState.{EventState, on_area, on_router}
 use Rattle.event_rules.specs.Routers.{Router}
 use Rattle.area.specs.Drafted.{drafts_with}

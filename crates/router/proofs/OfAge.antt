@@ -5,15 +5,15 @@ use Rattle.std.proofs.Common.{Option, None, Some, refl, sym, ap, ◌∙◌, appe
 use Rattle.std.specs.List.{AllByRecursion, filter, fold}
 use Rattle.std.specs.FinMap as finite
 use Rattle.words.specs.declared.key.Key.{Key}
-use Rattle.area.specs.lsdb.Headers.{Lsa}
-use Rattle.area.specs.lsdb.Copies.{DatabaseCopy, max_age_keys, has_just_aged_out}
-use Rattle.area.specs.lsdb.Copies.{is_aged_out, lsa_now}
-use Rattle.area.specs.adjacency.Drafts.{Drafted}
-use Rattle.area.specs.received.Flooding.{flood, flood_to}
-use Rattle.area.specs.received.Links.{Area}
-use Rattle.area.specs.received.AreaStates.{AreaState, Send, stepping_sends}
-use Rattle.area.proofs.received.Marks.{IsStill, StillThere, all_there, still_all}
-use Rattle.area.proofs.received.Marks.{still_marked}
+use Rattle.lsdb.specs.Headers.{Lsa}
+use Rattle.lsdb.specs.Copies.{DatabaseCopy, max_age_keys, has_just_aged_out}
+use Rattle.lsdb.specs.Copies.{is_aged_out, lsa_now}
+use Rattle.adjacency.specs.Drafts.{Drafted}
+use Rattle.received.specs.Flooding.{flood, flood_to}
+use Rattle.received.specs.Links.{Area}
+use Rattle.received.specs.AreaStates.{AreaState, Send, stepping_sends}
+use Rattle.received.proofs.Marks.{IsStill, StillThere, all_there, still_all}
+use Rattle.received.proofs.Marks.{still_marked}
 use Rattle.event_rules.specs.Endings.{flood_aged, flood_if_aged}
 use Rattle.area.specs.Drafted.{drafts_with}
 use Rattle.area.specs.Links.{flood_new_max_age, flood_new_max_age_copy, with_no_sends}

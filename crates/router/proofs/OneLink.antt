@@ -4,13 +4,13 @@ use Rattle.std.proofs.Common.{length, get_or, set, refl, sym, ap, ◌∙◌, ari
 use Rattle.std.proofs.lemmas.List.{set-get_or}
 use Rattle.std.specs.List.{slice_get}
 use Rattle.std.specs.Prelude.{Some}
-use Rattle.area.specs.lsdb.Copies.{Database}
-use Rattle.area.specs.adjacency.Contents.{Content, Step}
-use Rattle.area.specs.adjacency.Contents as neighbor
-use Rattle.area.specs.adjacency.Neighbors.{Neighbor}
-use Rattle.area.specs.received.Links.{Area, Link, change_link, link_at}
-use Rattle.area.specs.received.AreaStates.{AreaState, sends_at, one_neighbor, only_at, sending}
-use Rattle.area.specs.received.AreaStates.{sent_on, step_on, stepped_links, stepping_sends}
+use Rattle.lsdb.specs.Copies.{Database}
+use Rattle.adjacency.specs.Contents.{Content, Step}
+use Rattle.adjacency.specs.Contents as neighbor
+use Rattle.adjacency.specs.Neighbors.{Neighbor}
+use Rattle.received.specs.Links.{Area, Link, change_link, link_at}
+use Rattle.received.specs.AreaStates.{AreaState, sends_at, one_neighbor, only_at, sending}
+use Rattle.received.specs.AreaStates.{sent_on, step_on, stepped_links, stepping_sends}
 use Rattle.area.specs.Links.{with_no_sends, with_neighbor}
 use Rattle.area.specs.Steps.{one_link, sent_by}
 use Rattle.area.proofs.Only.{sends_only, sent_acts, sent_rests, set_only, step_acts, step_rests}

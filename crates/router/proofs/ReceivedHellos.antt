@@ -1,12 +1,12 @@
 -- A Hello on one link.
 use Rattle.std.proofs.Common.{◌≡◌, ℕ, ◌≤◌, Bool, true, false, cond, List, [], length, sym, ap, ◌∙◌}
 use Rattle.std.specs.Prelude.{Option, Some}
-use Rattle.area.specs.lsdb.Copies.{Database}
+use Rattle.lsdb.specs.Copies.{Database}
 use Rattle.packet.specs.declared.model.Hello.{Hello}
-use Rattle.area.specs.adjacency.Contents.{Content, Step}
-use Rattle.area.specs.adjacency.Drafts.{Drafted, drafting}
-use Rattle.area.proofs.adjacency.Floods.{drafting-none}
-use Rattle.area.specs.received.Links.{Area, Link}
+use Rattle.adjacency.specs.Contents.{Content, Step}
+use Rattle.adjacency.specs.Drafts.{Drafted, drafting}
+use Rattle.adjacency.proofs.Floods.{drafting-none}
+use Rattle.received.specs.Links.{Area, Link}
 use Rattle.event_rules.specs.Hellos.{accepts}
 use Rattle.event_rules.specs.Packets.{accept_hello, receive_hello, receive_hello_on}
 use Rattle.area.specs.Links.{with_no_sends, with_neighbor}

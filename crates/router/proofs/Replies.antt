@@ -4,14 +4,14 @@ use Rattle.std.proofs.Common.{sym, ap, ◌∙◌}
 use Rattle.std.specs.List.{list_all}
 use Rattle.std.specs.Prelude.{Option, None, Some}
 use Rattle.words.specs.declared.key.Key.{Key}
-use Rattle.area.specs.lsdb.Copies.{Database}
-use Rattle.area.specs.adjacency.Adjacencies.{mismatch_step}
-use Rattle.area.specs.adjacency.Contents.{Step, Updates}
-use Rattle.area.specs.adjacency.Contents as neighbor
-use Rattle.area.specs.adjacency.Neighbors.{Neighbor, is_exchange_or_later}
-use Rattle.area.specs.adjacency.Steps.{after_request, answer_to_request, lsas_of}
-use Rattle.area.specs.received.Links.{Area, Link, neighbor_at, neighbor_on}
-use Rattle.area.specs.received.AreaStates.{sends_at, one_neighbor, sending}
+use Rattle.lsdb.specs.Copies.{Database}
+use Rattle.adjacency.specs.Adjacencies.{mismatch_step}
+use Rattle.adjacency.specs.Contents.{Step, Updates}
+use Rattle.adjacency.specs.Contents as neighbor
+use Rattle.adjacency.specs.Neighbors.{Neighbor, is_exchange_or_later}
+use Rattle.adjacency.specs.Steps.{after_request, answer_to_request, lsas_of}
+use Rattle.received.specs.Links.{Area, Link, neighbor_at, neighbor_on}
+use Rattle.received.specs.AreaStates.{sends_at, one_neighbor, sending}
 use Rattle.event_rules.specs.Packets.{neighbor_is_exchange_or_later, is_there, receive_request}
 use Rattle.area.specs.Links.{with_no_sends, with_neighbor}
 use Rattle.router.proofs.OneLink.{leaves, link, link_is, one_neighbor_is, stays}

@@ -1,12 +1,12 @@
 -- The Hello of a link.
 use Rattle.std.proofs.Common.{◌≡◌, ℕ, true, false, cond, Bool, List, [], ◌∷◌, refl, sym, ap, ◌∙◌}
 use Rattle.std.specs.Prelude.{Option, None, Some}
-use Rattle.area.specs.adjacency.Contents.{Content, SendsHello}
-use Rattle.area.specs.adjacency.Drafts.{Drafted, drafting}
-use Rattle.area.specs.adjacency.Neighbors.{Neighbor}
-use Rattle.area.specs.adjacency.Steps.{named_neighbor}
-use Rattle.area.proofs.adjacency.Floods.{drafting-none}
-use Rattle.area.specs.received.Links.{Link}
+use Rattle.adjacency.specs.Contents.{Content, SendsHello}
+use Rattle.adjacency.specs.Drafts.{Drafted, drafting}
+use Rattle.adjacency.specs.Neighbors.{Neighbor}
+use Rattle.adjacency.specs.Steps.{named_neighbor}
+use Rattle.adjacency.proofs.Floods.{drafting-none}
+use Rattle.received.specs.Links.{Link}
 use Rattle.event_rules.specs.Hellos.{heard_of, hello_is_due, hello_on, with_hello_sent}
 use Rattle.event_rules.specs.Ticks.{hello_sent_on}
 use Rattle.router.specs.SentHellos.{routers_of}

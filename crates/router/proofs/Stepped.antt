@@ -2,13 +2,13 @@
 use Rattle.std.proofs.Common.{◌≡◌, ℕ, ◌+◌, List, [], ◌∷◌, ◌++◌, map, refl}
 use Rattle.std.specs.List.{enumerate_from, flat_map, fold}
 use Rattle.std.specs.Prelude.{Option, None, Some}
-use Rattle.area.specs.lsdb.Copies.{Database}
-use Rattle.area.specs.adjacency.Contents.{Content, Step}
-use Rattle.area.specs.adjacency.Contents as neighbor
-use Rattle.area.specs.adjacency.Neighbors.{Neighbor}
-use Rattle.area.specs.received.Links.{Area, Link}
-use Rattle.area.specs.received.AreaStates.{Send, each_neighbor, marked_database, sends_at}
-use Rattle.area.specs.received.AreaStates.{sent_on, step_on}
+use Rattle.lsdb.specs.Copies.{Database}
+use Rattle.adjacency.specs.Contents.{Content, Step}
+use Rattle.adjacency.specs.Contents as neighbor
+use Rattle.adjacency.specs.Neighbors.{Neighbor}
+use Rattle.received.specs.Links.{Area, Link}
+use Rattle.received.specs.AreaStates.{Send, each_neighbor, marked_database, sends_at}
+use Rattle.received.specs.AreaStates.{sent_on, step_on}
 use Rattle.area.specs.Links.{with_no_sends, with_neighbor}
 use Rattle.area.specs.Steps.{all_links}
 

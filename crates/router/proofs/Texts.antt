@@ -7,9 +7,9 @@ use Rattle.lsa.specs.declared.fault.LsaFault.{LsaFault}
 use Rattle.lsa.specs.declared.fault.LsaError.TheVariants as errors
 use Rattle.lsa.specs.Outcome.{Reads}
 use Rattle.lsa.specs.Reading.{lsa_in, read_unless}
-use Rattle.area.specs.adjacency.lsdb.Headers.{Lsa}
-use Rattle.event_rules.specs.received.Cases.{Case}
-use Rattle.event_rules.specs.received.Updates.{after_case, case_at, goes_on}
+use Rattle.lsdb.specs.Headers.{Lsa}
+use Rattle.received.specs.Cases.{Case}
+use Rattle.received.specs.Updates.{after_case, case_at, goes_on}
 use Rattle.event_rules.specs.EventState.{EventState, on_area}
 use Rattle.event_rules.specs.Originations.{receive_self_originated}
 use Rattle.event_rules.specs.Packets.{after_lsa, after_lsas, after_parsed, case_in}

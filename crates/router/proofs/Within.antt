@@ -4,8 +4,8 @@ use Rattle.std.proofs.Common.{subst, ap, ◌∙◌}
 use Rattle.std.specs.List.{fold}
 use Rattle.std.specs.FinMap as finite
 use Rattle.words.specs.declared.key.Key.{Key}
-use Rattle.area.specs.lsdb.Copies.{DatabaseCopy, is_aged_out, lsa_now}
-use Rattle.area.specs.received.AreaStates.{AreaState}
+use Rattle.lsdb.specs.Copies.{DatabaseCopy, is_aged_out, lsa_now}
+use Rattle.received.specs.AreaStates.{AreaState}
 use Rattle.event_rules.specs.EventState.{flood_from_nobody}
 use Rattle.event_rules.specs.Endings.{flood_aged, flood_if_aged}
 

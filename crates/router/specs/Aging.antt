@@ -4,9 +4,9 @@ use Rattle.std.specs.Prelude.{List, [], ◌∷◌, ◌++◌}
 use Rattle.std.specs.List.{fold}
 use Rattle.words.specs.Numbers.{Moment}
 use Rattle.words.specs.declared.key.Key.{Key}
-use Rattle.area.specs.lsdb.Copies.{Database}
-use Rattle.area.specs.received.Links.{Area, Link}
-use Rattle.area.specs.received.AreaStates.{AreaState}
+use Rattle.lsdb.specs.Copies.{Database}
+use Rattle.received.specs.Links.{Area, Link}
+use Rattle.received.specs.AreaStates.{AreaState}
 use Rattle.area.specs.Links.{flood_new_max_age, with_no_sends, without_acknowledged}
 
 abbrev pub without_each : List Link → Database → List Key → Database

@@ -5,10 +5,10 @@ use Rattle.lsa.specs.declared.body.LsaBody.{LsaBody}
 use Rattle.lsa.specs.declared.body.LsaBody.TheVariants as body
 use Rattle.lsa.specs.declared.body.RouterLink.{RouterLink}
 use Rattle.lsa.specs.declared.body.LinkKind.TheVariants.{PointToPoint}
-use Rattle.area.specs.adjacency.Neighbors.{Neighbor, is_full}
-use Rattle.area.specs.adjacency.declared.interface.Interface.{Interface}
-use Rattle.area.specs.adjacency.declared.state.NeighborState.{NeighborState}
-use Rattle.area.specs.received.Links.{Link}
+use Rattle.adjacency.specs.Neighbors.{Neighbor, is_full}
+use Rattle.adjacency.specs.declared.interface.Interface.{Interface}
+use Rattle.adjacency.specs.declared.state.NeighborState.{NeighborState}
+use Rattle.received.specs.Links.{Link}
 use Rattle.event_rules.specs.Originations.{stub}
 
 abbrev pub full_router : Option (RouterNumber × NeighborState) → Option RouterNumber

@@ -2,7 +2,7 @@
 -- up `end_event`.
 use Rattle.std.specs.Prelude.{List}
 use Rattle.words.specs.Numbers.{Moment}
-use Rattle.event_rules.specs.received.Links.{Link}
+use Rattle.received.specs.Links.{Link}
 use Rattle.event_rules.specs.Endings.{loading_done, originate_router_lsa, postpone_router_lsa}
 use Rattle.event_rules.specs.EventState.{EventState}
 

@@ -5,8 +5,8 @@ use Rattle.std.specs.Ordering.{int_cmp, is_eq}
 use Rattle.words.specs.Constants.{max_sequence_number}
 use Rattle.words.specs.declared.key.Key.{Key}
 use Rattle.lsa.specs.declared.body.LsaBody.{LsaBody}
-use Rattle.area.specs.lsdb.Copies.{DatabaseCopy}
-use Rattle.area.specs.lsdb.Headers.{Lsa}
+use Rattle.lsdb.specs.Copies.{DatabaseCopy}
+use Rattle.lsdb.specs.Headers.{Lsa}
 use Rattle.event_rules.specs.Originations.{has_max_sequence, new_instance, next_sequence}
 
 abbrev pub number_after : ℤ → Option ℤ

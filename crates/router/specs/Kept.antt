@@ -1,7 +1,7 @@
 -- A router within an event.
 use Rattle.std.specs.Prelude.{List, refl}
 use Rattle.std.specs.Coded.{Coded, code_by, coded×, coded_list}
-use Rattle.area.specs.adjacency.Drafts.{Drafted}
+use Rattle.adjacency.specs.Drafts.{Drafted}
 use Rattle.event_rules.specs.Routers.{Router}
 
 -- the router, what it was when it was last committed, and what was drafted since, one draft for

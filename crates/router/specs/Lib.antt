@@ -18,5 +18,3 @@ pub mod Bodies
 pub mod Drafts
 pub mod Fillings
 pub mod Texts
--- names from the crates below that crates above use
-pub use Rattle.area.specs as flooding

@@ -4,7 +4,7 @@
 -- caller rolls the router back, which drops what was drafted, too. Whatever it answers, what was
 -- committed stays the same.
 use Rattle.std.specs.Prelude.{◌≡◌, List, OnOk, Result}
-use Rattle.area.specs.adjacency.Drafts.{Drafted}
+use Rattle.adjacency.specs.Drafts.{Drafted}
 use Rattle.area.specs.Drafted.{drafts_with}
 use Rattle.event_rules.specs.EventState.{EventState}
 pub use Rattle.router.specs.Described.{interfaces as interfaces_of}

@@ -4,7 +4,7 @@ use Rattle.std.specs.FinMap as finite
 use Rattle.words.specs.Numbers.{RouterNumber}
 use Rattle.words.specs.declared.key.Key.{Key}
 use Rattle.words.specs.declared.route.External.{External}
-use Rattle.area.specs.lsdb.Keys.{ByKey}
+use Rattle.lsdb.specs.Keys.{ByKey}
 use Rattle.event_rules.specs.Originations.{external_key}
 
 -- the destination has the key of its AS-external-LSA, and a metric of 24 bits

@@ -1,7 +1,7 @@
 -- Parts of an event that are done in a row.
 use Rattle.words.specs.Numbers.{Moment}
 use Rattle.words.specs.declared.key.Key.{Key}
-use Rattle.area.specs.lsdb.Headers.{Lsa}
+use Rattle.lsdb.specs.Headers.{Lsa}
 use Rattle.event_rules.specs.Endings.{remove_aged, request_all}
 use Rattle.event_rules.specs.EventState.{EventState, on_area, on_router}
 use Rattle.event_rules.specs.Originations.{as_originated, install_and_flood}

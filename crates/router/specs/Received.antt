@@ -4,10 +4,10 @@ use Rattle.words.specs.Numbers.{InterfaceNumber, Moment, RouterNumber}
 use Rattle.packet.specs.declared.model.Packet.{Packet}
 use Rattle.packet.specs.declared.model.PacketBody.{PacketBody}
 use Rattle.packet.specs.declared.model.PacketBody.TheVariants as body
-use Rattle.area.specs.adjacency.lsdb.Headers.{Lsa}
-use Rattle.area.specs.adjacency.Neighbors.{Neighbor, is_exchange_or_later}
-use Rattle.area.specs.adjacency.declared.state.NeighborState.{NeighborState}
-use Rattle.event_rules.specs.received.Updates.{goes_on}
+use Rattle.lsdb.specs.Headers.{Lsa}
+use Rattle.adjacency.specs.Neighbors.{Neighbor, is_exchange_or_later}
+use Rattle.adjacency.specs.declared.state.NeighborState.{NeighborState}
+use Rattle.received.specs.Updates.{goes_on}
 use Rattle.event_rules.specs.Packets.{neighbor_is_exchange_or_later, case_in, is_heard}
 use Rattle.event_rules.specs.Routers.{Router}
 

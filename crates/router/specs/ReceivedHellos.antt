@@ -3,10 +3,10 @@ use Rattle.std.specs.Prelude.{Bool, true, ◌==◌, if◌then◌else◌, List, [
 use Rattle.std.specs.Prelude.{None, Some}
 use Rattle.words.specs.Numbers.{Moment, RouterNumber}
 use Rattle.packet.specs.declared.model.Hello.{Hello}
-use Rattle.area.specs.adjacency.Adjacencies.{after_hello}
-use Rattle.area.specs.adjacency.Contents.{Content, Step}
-use Rattle.area.specs.adjacency.declared.state.NeighborState.{NeighborState}
-use Rattle.area.specs.received.Links.{Link}
+use Rattle.adjacency.specs.Adjacencies.{after_hello}
+use Rattle.adjacency.specs.Contents.{Content, Step}
+use Rattle.adjacency.specs.declared.state.NeighborState.{NeighborState}
+use Rattle.received.specs.Links.{Link}
 use Rattle.event_rules.specs.Hellos.{accepts, names}
 use Rattle.area.specs.Links.{with_neighbor}
 

@@ -2,7 +2,7 @@
 -- `after_tick`.
 use Rattle.std.specs.Prelude.{map}
 use Rattle.words.specs.Numbers.{Moment}
-use Rattle.event_rules.specs.received.AreaStates.{on_links}
+use Rattle.received.specs.AreaStates.{on_links}
 use Rattle.event_rules.specs.EventState.{EventState, on_area, on_router}
 use Rattle.event_rules.specs.Originations.{due_keys, forget_originations, originate_due}
 use Rattle.event_rules.specs.Ticks.{expire_timers}

@@ -1,7 +1,7 @@
 //! What packets from a neighbor do to the conversation with it (RFC 2328, sections 10.5 to 10.7 and
 //! 13.7).
 ghost use Rattle.std.specs.Prelude.{◌≡◌, ◌≤◌, length, true};
-ghost use Rattle.area.specs.received.Links.{neighbor_at};
+ghost use Rattle.received.specs.Links.{neighbor_at};
 ghost use Rattle.event_rules.specs.EventState.{on_area};
 ghost use Rattle.event_rules.specs.Packets.{neighbor_is_exchange_or_later, receive_acknowledgment};
 ghost use Rattle.event_rules.specs.Packets.{receive_description, receive_hello};

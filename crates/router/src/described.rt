@@ -2,7 +2,7 @@
 ghost use Rattle.std.specs.Prelude.{◌≡◌, ◌≤◌, List, length, map, IfOk, IsTrue};
 ghost use Rattle.lsa.specs.Ranges.{BodyFits};
 ghost use Rattle.lsa.specs.Text.{body_text};
-ghost use Rattle.area.specs.received.Links.{Link as OnLink};
+ghost use Rattle.received.specs.Links.{Link as OnLink};
 ghost use Rattle.event_rules.specs.Endings.{copy_has_body, links_differ, same_body};
 ghost use Rattle.event_rules.specs.Originations.{router_body};
 ghost use Rattle.area.specs.Links.{present};

@@ -1,6 +1,6 @@
 //! The end of an event in its parts.
 ghost use Rattle.std.specs.Prelude.{◌≡◌, List, length};
-ghost use Rattle.event_rules.specs.received.Links.{Link};
+ghost use Rattle.received.specs.Links.{Link};
 ghost use Rattle.event_rules.specs.Endings.{end_event, originate_router_lsa, postpone_router_lsa};
 ghost use Rattle.router.specs.Full.{full_routers};
 ghost use Rattle.router.specs.EndingParts.{loading_done_then_originate};

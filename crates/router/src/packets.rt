@@ -1,7 +1,7 @@
 //! Received packets by their types.
 ghost use Rattle.std.specs.Prelude.{◌≡◌, ◌≤◌, length};
-ghost use Rattle.area.specs.adjacency.Steps.{named_neighbor};
-ghost use Rattle.event_rules.specs.received.Links.{neighbor_at};
+ghost use Rattle.adjacency.specs.Steps.{named_neighbor};
+ghost use Rattle.received.specs.Links.{neighbor_at};
 ghost use Rattle.event_rules.specs.Packets.{after_packet, neighbor_is_exchange_or_later, is_from};
 ghost use Rattle.event_rules.specs.Packets.{is_heard};
 ghost use Rattle.event_rules.specs.Packets.{is_hello};

@@ -1,7 +1,7 @@
 //! New instances of self-originated LSAs.
 ghost use Rattle.std.specs.Prelude.{◌≡◌};
 ghost use Rattle.event_rules.specs.Originations.{originate_or_postpone, receive_self_originated};
-ghost use Rattle.area.specs.adjacency.lsdb.Headers.{Lsa};
+ghost use Rattle.lsdb.specs.Headers.{Lsa};
 ghost use Rattle.router.specs.Decisions.{after_origination};
 ghost use Rattle.router.specs.Making.{RouterDoes};
 ghost use Rattle.router.specs.Wanted.{originate_if_wanted};

@@ -36,10 +36,10 @@ impl Model for Router {
     ghost use Rattle.std.specs.Coded.{codes};
     ghost use Rattle.std.specs.FinMap as finite;
     ghost use Rattle.words.specs.declared.route.External.{External as Destination};
-    ghost use Rattle.area.specs.lsdb.Copies.{DatabaseCopy};
-    ghost use Rattle.area.specs.lsdb.Keys.{coded_key, key_cmp};
-    ghost use Rattle.area.specs.adjacency.Codes.{coded_headers, coded_keys, coded_lists};
-    ghost use Rattle.area.specs.adjacency.Views.{keys_of};
+    ghost use Rattle.lsdb.specs.Copies.{DatabaseCopy};
+    ghost use Rattle.lsdb.specs.Keys.{coded_key, key_cmp};
+    ghost use Rattle.adjacency.specs.Codes.{coded_headers, coded_keys, coded_lists};
+    ghost use Rattle.adjacency.specs.Views.{keys_of};
     ghost use Rattle.router.specs.Kept.{KeptRouter, coded_router};
     ghost use Rattle.router.specs.Owned.{AreOwn};
 

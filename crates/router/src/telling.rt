@@ -1,6 +1,6 @@
 //! Whether the router-LSA has changed (RFC 2328, section 12.4.1).
 ghost use Rattle.std.specs.Prelude.{◌≡◌, ◌&&◌, List, IfOk, length, not};
-ghost use Rattle.event_rules.specs.received.Links.{Link};
+ghost use Rattle.received.specs.Links.{Link};
 ghost use Rattle.event_rules.specs.Endings.{is_at, is_current, links_differ};
 ghost use Rattle.router.specs.Full.{full_routers};
 ghost use Rattle.router.specs.Making.{interfaces_of};

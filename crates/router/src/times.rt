@@ -1,7 +1,7 @@
 //! What a Tick and the end of an event do to the links and the database (RFC 2328, sections 9.5,
 //! 10.3, 10.8, 10.9, 13.5, 13.6 and 14).
 ghost use Rattle.std.specs.Prelude.{map};
-ghost use Rattle.area.specs.received.AreaStates.{on_links};
+ghost use Rattle.received.specs.AreaStates.{on_links};
 ghost use Rattle.event_rules.specs.Commands.{after_link_down};
 ghost use Rattle.event_rules.specs.EventState.{on_area};
 ghost use Rattle.event_rules.specs.Endings.{flood_aged, loading_done};

@@ -1,7 +1,7 @@
 //! The LSAs of a received Link State Update in turn (RFC 2328, section 13).
 ghost use Rattle.std.specs.Prelude.{◌≡◌, ◌≤◌, IfOk, length};
 ghost use Rattle.lsa.specs.Reading.{lsa_in};
-ghost use Rattle.event_rules.specs.received.Updates.{goes_on};
+ghost use Rattle.received.specs.Updates.{goes_on};
 ghost use Rattle.event_rules.specs.Packets.{after_lsas, after_parsed};
 ghost use Rattle.area.specs.Cases.{case_of, is_to_be_installed};
 ghost use Rattle.router.specs.Making.{RouterDoes};

@@ -17,5 +17,3 @@ pub mod Comparisons
 pub mod Rows
 pub mod Loops
 pub mod ForwardingLoopsTables
--- names from the crates below that crates above use
-pub use Rattle.lsdb.specs as lsdb

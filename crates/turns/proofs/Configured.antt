@@ -6,11 +6,11 @@ use Rattle.words.specs.declared.route.Route.{Route}
 use Rattle.words.specs.declared.route.TableRow.{TableRow}
 use Rattle.maps.specs.Words.{SeatView}
 use Rattle.hooks.specs.declared.operation.LoaderOperation.{LoaderOperation}
-use Rattle.hooks.specs.machine.Given.{Given}
+use Rattle.machine.specs.Given.{Given}
 use Rattle.hooks.specs.Answered.{IsAnswered}
 use Rattle.hooks.specs.Questions.{ExternalAnswer, price_input, tag_input}
 use Rattle.hooks.specs.Vacant.{IsAnsweredWithoutSeat}
-use Rattle.flood.specs.event_rules.Routers.{Router}
+use Rattle.event_rules.specs.Routers.{Router}
 use Rattle.flood.specs.declared.event.Event.TheVariants as event
 use Rattle.turns.specs.Laws.{AnswersAreBesideATable}
 use Rattle.turns.specs.Turns.{AreAnswersAsked, AreBeside, IsOfferedBySome, IsRedistribute, Offers}

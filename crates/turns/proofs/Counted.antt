@@ -2,7 +2,7 @@
 use Rattle.std.proofs.Common.{◌≡◌, inl, inr, ℕ, List, Option, None, Some, ap, sym, ◌∙◌, subst}
 use Rattle.std.specs.Prelude.{IfNone, IfSome}
 use Rattle.words.specs.Numbers.{InterfaceNumber, Moment}
-use Rattle.flood.specs.event_rules.declared.model.CoreError.TheVariants as core_error
+use Rattle.event_rules.specs.declared.model.CoreError.TheVariants as core_error
 use Rattle.hooks.specs.Questions.{count_input}
 use Rattle.flood.specs.declared.book.error.BookError.TheVariants as book_error
 use Rattle.flood.specs.declared.event.Event.{Event}

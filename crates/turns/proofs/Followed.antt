@@ -3,7 +3,7 @@ use Rattle.std.proofs.Common.{◌≡◌, ◌⊎◌, inl, inr, ◌∙◌, ℕ, �
 use Rattle.std.proofs.Common.{List, arith, subst}
 use Rattle.std.specs.Prelude.{◌≢◌, IfNone, IfSome, MatchOption}
 use Rattle.words.specs.Numbers.{Moment}
-use Rattle.flood.specs.event_rules.declared.model.Out.{Out}
+use Rattle.event_rules.specs.declared.model.Out.{Out}
 use Rattle.turns.specs.Askers.{AskerState, IsLater}
 use Rattle.turns.specs.Turns.{HasNoRefresh, IsChangedSince, IsUnchanged, IsUnrefreshed, Offers}
 use Rattle.turns.specs.Turns.{Refuses, RefusesFor, TakesFor, Took}

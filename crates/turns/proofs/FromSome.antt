@@ -5,10 +5,10 @@ use Rattle.std.specs.Prelude.{◌↔◌, Result, Ok, Err, IfSome, IsTrue, MatchR
 use Rattle.words.specs.Numbers.{Moment}
 use Rattle.words.specs.declared.route.Route.{Route}
 use Rattle.words.specs.declared.route.TableRow.{TableRow}
-use Rattle.flood.specs.event_rules.declared.model.Out.{Out}
-use Rattle.flood.specs.event_rules.Events.{Happens}
-use Rattle.flood.specs.event_rules.Refusals.{IsAllowed}
-use Rattle.flood.specs.event_rules.Routers.{Router}
+use Rattle.event_rules.specs.declared.model.Out.{Out}
+use Rattle.event_rules.specs.Events.{Happens}
+use Rattle.event_rules.specs.Refusals.{IsAllowed}
+use Rattle.event_rules.specs.Routers.{Router}
 use Rattle.flood.specs.declared.event.Event.{Event}
 use Rattle.flood.specs.Occurrences.{occurrence_of}
 use Rattle.flood.specs.Refusals.{BookRefusesWithMarksByRules}

@@ -6,7 +6,7 @@ use Rattle.words.specs.declared.route.External.{External}
 use Rattle.words.specs.declared.route.Route.{Route}
 use Rattle.words.specs.declared.route.TableRow.{TableRow}
 use Rattle.maps.specs.Words.{SeatView}
-use Rattle.hooks.specs.machine.Given.{Given}
+use Rattle.machine.specs.Given.{Given}
 use Rattle.hooks.specs.declared.operation.LoaderOperation.{LoaderOperation}
 use Rattle.hooks.specs.Questions.{ExternalAnswer, RouteAnswer}
 use Rattle.hooks.proofs.Fronts.{prefix_trans}

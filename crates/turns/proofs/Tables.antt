@@ -15,9 +15,9 @@ use Rattle.routes.proofs.Ordered.{answers_exact, answers_total}
 use Rattle.routes.specs.Orders.{answer_cmp}
 use Rattle.routes.specs.Parts.{AreLetIn}
 use Rattle.routes.specs.Rows.{rows_of}
-use Rattle.flood.specs.area_routes.Offers.{root_by}
+use Rattle.area_routes.specs.Offers.{root_by}
 use Rattle.routes.specs.Contents.{contents_at}
-use Rattle.flood.specs.event_rules.Routers.{Router}
+use Rattle.event_rules.specs.Routers.{Router}
 use Rattle.flood.specs.Offers.{AreCandidatesNow, IsOffered}
 
 same_or_not : (a b : Route × ℕ) → (a ≡ b) ⊎ (a ≡ b → ⊥)

@@ -5,7 +5,7 @@ use Rattle.words.specs.Numbers.{Moment}
 use Rattle.words.specs.declared.route.Route.{Route}
 use Rattle.words.specs.declared.route.TableRow.{TableRow}
 use Rattle.maps.specs.Words.{SeatView}
-use Rattle.hooks.specs.machine.Given.{Given}
+use Rattle.machine.specs.Given.{Given}
 use Rattle.hooks.specs.declared.asker.Asker.{Asker}
 use Rattle.hooks.specs.declared.operation.LoaderOperation.{LoaderOperation}
 use Rattle.hooks.specs.Answered.{AreAnswered, IsAnswered}

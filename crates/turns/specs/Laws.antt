@@ -5,8 +5,8 @@ use Rattle.words.specs.Numbers.{InterfaceNumber, Moment}
 use Rattle.words.specs.declared.route.External.{External}
 use Rattle.words.specs.declared.route.Route.{Route}
 use Rattle.words.specs.declared.route.TableRow.{TableRow}
-use Rattle.flood.specs.event_rules.declared.model.Out.{Out}
-use Rattle.flood.specs.event_rules.Routers.{Router}
+use Rattle.event_rules.specs.declared.model.Out.{Out}
+use Rattle.event_rules.specs.Routers.{Router}
 use Rattle.hooks.specs.Questions.{ExternalAnswer}
 use Rattle.flood.specs.declared.event.Event.{Event}
 use Rattle.flood.specs.declared.event.Event.TheVariants as event

@@ -9,14 +9,14 @@ use Rattle.words.specs.Prefixes.{Network}
 use Rattle.words.specs.declared.route.External.{External}
 use Rattle.words.specs.declared.route.Route.{Route}
 use Rattle.words.specs.declared.route.TableRow.{TableRow}
-use Rattle.hooks.specs.machine.Given.{Given}
-use Rattle.flood.specs.event_rules.declared.model.CoreError.TheVariants as core_error
-use Rattle.flood.specs.event_rules.declared.model.Out.{Out}
-use Rattle.flood.specs.event_rules.Commands.{is_for}
-use Rattle.flood.specs.event_rules.Events.{Happens}
-use Rattle.flood.specs.event_rules.Originations.{external_key}
-use Rattle.flood.specs.event_rules.Refusals.{IsAllowed}
-use Rattle.flood.specs.event_rules.Routers.{Router}
+use Rattle.machine.specs.Given.{Given}
+use Rattle.event_rules.specs.declared.model.CoreError.TheVariants as core_error
+use Rattle.event_rules.specs.declared.model.Out.{Out}
+use Rattle.event_rules.specs.Commands.{is_for}
+use Rattle.event_rules.specs.Events.{Happens}
+use Rattle.event_rules.specs.Originations.{external_key}
+use Rattle.event_rules.specs.Refusals.{IsAllowed}
+use Rattle.event_rules.specs.Routers.{Router}
 use Rattle.hooks.specs.declared.operation.LoaderOperation.{LoaderOperation}
 use Rattle.hooks.specs.Questions.{ExternalAnswer, RouteAnswer}
 use Rattle.hooks.specs.Questions.{count_input, price_input, tag_input, veto_input}
@@ -28,7 +28,7 @@ use Rattle.flood.specs.Occurrences.{occurrence_of}
 use Rattle.flood.specs.Offers.{IsOffered, IsStaleNow}
 use Rattle.flood.specs.Refusals.{BookRefusesWithMarksByRules}
 use Rattle.flood.specs.Replay.{BookView, IsAfterEvents}
-use Rattle.flood.specs.NeighborState.{NeighborState}
+use Rattle.adjacency.specs.declared.state.NeighborState.{NeighborState}
 use Rattle.turns.specs.Askers.{AreVetoes, AskerState, IsAnsweredAt, IsLater}
 use Rattle.turns.specs.declared.turned.TurnOutcome.{TurnOutcome}
 use Rattle.turns.specs.declared.turned.TurnError.{TurnError}

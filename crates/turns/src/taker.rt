@@ -14,12 +14,12 @@ ghost use Rattle.hooks.specs.Answered.{AreAnswered, IsAnswered};
 ghost use Rattle.hooks.specs.Known.{asker_history, known_to, told_by};
 ghost use Rattle.hooks.specs.Questions.{count_input, price_input, tag_input, veto_input};
 ghost use Rattle.hooks.specs.Vacant.{IsAnsweredWithoutSeat, let_in_answer};
-ghost use Rattle.flood.specs.event_rules.Events.{Happens};
-ghost use Rattle.flood.specs.event_rules.Routers.{shown_at};
+ghost use Rattle.event_rules.specs.Events.{Happens};
+ghost use Rattle.event_rules.specs.Routers.{shown_at};
 ghost use Rattle.flood.specs.declared.event.Event.{Event};
 ghost use Rattle.flood.specs.Occurrences.{occurrence_of};
 ghost use Rattle.flood.specs.Offers.{AreCandidatesNow, IsOffered, IsStaleNow};
-ghost use Rattle.flood.specs.NeighborState.{NeighborState};
+ghost use Rattle.adjacency.specs.declared.state.NeighborState.{NeighborState};
 ghost use Rattle.turns.specs.Askers.{IsLater, asker_state};
 ghost use Rattle.turns.specs.Turns.{
   IsAsked,

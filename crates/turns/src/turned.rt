@@ -52,7 +52,7 @@ impl From<BookError> for TurnError {
 }
 
 impl From<AllocError> for TurnError {
-    ghost use Rattle.flood.specs.event_rules.declared.model.CoreError.TheVariants.{Memory};
+    ghost use Rattle.event_rules.specs.declared.model.CoreError.TheVariants.{Memory};
     ghost use Rattle.flood.specs.declared.book.error.BookError.TheVariants.{Core};
     ghost use Rattle.turns.specs.declared.turned.TurnError.TheVariants.{Book};
 

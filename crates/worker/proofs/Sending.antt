@@ -1,5 +1,5 @@
 use Rattle.std.proofs.Common.{◌≡◌, ℕ, suc, List, [], ◌∷◌, ◌++◌, drop, refl, sym, subst}
-use Rattle.turns.specs.event_rules.declared.model.Out.{Out}
+use Rattle.event_rules.specs.declared.model.Out.{Out}
 use Rattle.worker.specs.Sending.{Gives, IsGivenEach}
 
 -- first these, and then those

@@ -8,13 +8,3 @@ pub mod Addresses
 pub mod Clocks
 pub mod Ends
 pub mod Descending
--- names from the crates below that crates above use
-pub use Rattle.turns.specs.Offers
-pub use Rattle.turns.specs.Replay
-pub use Rattle.turns.specs.Askers
-pub use Rattle.turns.specs.Turns
-pub use Rattle.turns.specs.Numbers
-pub use Rattle.turns.specs.declared.turned.TurnOutcome
-pub use Rattle.turns.specs.declared.turned.TurnError
-pub use Rattle.turns.specs.declared.work.Work
-pub use Rattle.turns.specs.event_rules

@@ -1,6 +1,6 @@
 -- The refusal after which a turn is tried again.
-use Rattle.turns.specs.event_rules.declared.model.CoreError.TheVariants.{ClockBack}
-use Rattle.turns.specs.flood.declared.book.error.BookError.TheVariants.{Core}
+use Rattle.event_rules.specs.declared.model.CoreError.TheVariants.{ClockBack}
+use Rattle.flood.specs.declared.book.error.BookError.TheVariants.{Core}
 use Rattle.turns.specs.declared.turned.TurnError.{TurnError}
 use Rattle.turns.specs.declared.turned.TurnError.TheVariants.{Book}
 

@@ -1,6 +1,6 @@
 -- What a transport is given to send.
 use Rattle.std.specs.Prelude.{◌≡◌, ℕ, List, [], ◌∷◌}
-use Rattle.turns.specs.event_rules.declared.model.Out.{Out}
+use Rattle.event_rules.specs.declared.model.Out.{Out}
 
 -- what is said of a transport before and after bytes for an interface were given to it
 abbrev pub Gives : (Transport : Type 0) → Type 1

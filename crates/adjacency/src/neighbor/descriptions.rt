@@ -3,7 +3,7 @@ ghost use Rattle.std.specs.Prelude.{◌≡◌, ◌+◌, ◌%◌, ◌^◌, false,
 ghost use Rattle.std.specs.Prelude.{◌∷◌, ◌++◌, take, IfOk, OnOk};
 ghost use Rattle.std.specs.FinMap as finite;
 ghost use Rattle.std.specs.List.{filter_map, fold};
-ghost use Rattle.adjacency.specs.lsdb.Instances.{listed_header_now};
+ghost use Rattle.lsdb.specs.Instances.{listed_header_now};
 ghost use Rattle.adjacency.specs.Descriptions.{
   announced_more,
   exchange_done,

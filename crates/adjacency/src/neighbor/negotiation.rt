@@ -2,7 +2,7 @@
 ghost use Rattle.std.specs.Prelude.{◌≡◌};
 ghost use Rattle.std.specs.FinMap as finite;
 ghost use Rattle.std.specs.List.{fold};
-ghost use Rattle.adjacency.specs.lsdb.Copies.{is_aged_out};
+ghost use Rattle.lsdb.specs.Copies.{is_aged_out};
 ghost use Rattle.adjacency.specs.Descriptions.{max_age_copies, negotiated_neighbor, young_copies};
 ghost use Rattle.adjacency.specs.Exchanges.{is_young, with_key};
 ghost use Rattle.adjacency.specs.Doing.{ListDoes, NeighborDoes};

@@ -4,8 +4,8 @@ ghost use Rattle.std.specs.Prelude.{◌≡◌, List, [], ◌∷◌, map, IfOk, O
 ghost use Rattle.std.specs.FinMap as finite;
 ghost use Rattle.std.specs.FinSet as set;
 ghost use Rattle.words.specs.declared.key.Key.{Key};
-ghost use Rattle.adjacency.specs.lsdb.Copies.{lsa_now};
-ghost use Rattle.adjacency.specs.lsdb.Headers.{Lsa};
+ghost use Rattle.lsdb.specs.Copies.{lsa_now};
+ghost use Rattle.lsdb.specs.Headers.{Lsa};
 ghost use Rattle.adjacency.specs.Adjacencies.{has_passed, loading_done};
 ghost use Rattle.adjacency.specs.Contents.{Requests, Updates};
 ghost use Rattle.adjacency.specs.Descriptions.{is_over_for, without_old_description};

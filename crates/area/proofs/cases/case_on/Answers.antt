@@ -1,6 +1,6 @@
 use Rattle.std.proofs.Common.{ap, sym, ◌∙◌}
 use Rattle.std.specs.Prelude.{Option}
-use Rattle.adjacency.specs.lsdb.Copies.{DatabaseCopy}
+use Rattle.lsdb.specs.Copies.{DatabaseCopy}
 use Rattle.received.specs.Cases.{case_of_readable}
 use Rattle.area.proofs.cases.case_on.Goals as goal
 

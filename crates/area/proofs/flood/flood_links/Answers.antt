@@ -1,5 +1,5 @@
 use Rattle.std.proofs.Common.{◌+◌, map, get_or, refl, ap, ◌∙◌, arith}
-use Rattle.adjacency.specs.lsdb.Copies.{lsa_now}
+use Rattle.lsdb.specs.Copies.{lsa_now}
 use Rattle.adjacency.specs.Contents as neighbor
 use Rattle.adjacency.specs.Drafts.{drafting}
 use Rattle.adjacency.specs.Floods.{flood_step, is_any}

@@ -1,5 +1,5 @@
 use Rattle.std.proofs.Common.{◌≡◌, map}
-use Rattle.adjacency.specs.lsdb.Copies.{lsa_now}
+use Rattle.lsdb.specs.Copies.{lsa_now}
 use Rattle.area.specs.Links.{committed_link, draft_of, present}
 use Rattle.area.proofs.Flooded.{Floods}
 use Rattle.area.proofs.flood.flood_links.Given as goal

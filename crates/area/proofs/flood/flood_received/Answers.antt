@@ -1,8 +1,8 @@
 use Rattle.std.proofs.Common.{◌≡◌, map, ap, subst, ◌∙◌}
 use Rattle.std.specs.Prelude.{None, Some, IfOk}
 use Rattle.adjacency.specs.Floods.{is_any}
-use Rattle.adjacency.specs.lsdb.Copies.{copy_of, lsa_now}
-use Rattle.adjacency.specs.lsdb.Headers.{Header, Lsa}
+use Rattle.lsdb.specs.Copies.{copy_of, lsa_now}
+use Rattle.lsdb.specs.Headers.{Header, Lsa}
 use Rattle.received.specs.Flooding.{flood_to}
 use Rattle.received.specs.AreaStates.{stepped_links, stepping_sends}
 use Rattle.area.specs.Doing.{LinksDo}

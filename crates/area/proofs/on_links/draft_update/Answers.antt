@@ -1,5 +1,5 @@
 use Rattle.std.proofs.Common.{◌-◌, [], ◌∷◌, arith}
-use Rattle.adjacency.specs.lsdb.Copies.{lsa_now}
+use Rattle.lsdb.specs.Copies.{lsa_now}
 use Rattle.adjacency.specs.Contents.{Updates}
 use Rattle.area.proofs.AtLink.{one_sends}
 use Rattle.area.proofs.on_links.draft_update.Goals as goal

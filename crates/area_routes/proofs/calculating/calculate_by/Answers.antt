@@ -1,7 +1,7 @@
 use Rattle.std.proofs.Common.{subst, sym}
 use Rattle.candidates.specs.Inner.{AreInner}
 use Rattle.kept_routes.specs.Kept.{IsWalkOf}
-use Rattle.routes.specs.lsdb.Kept.{RouterDatabase}
+use Rattle.lsdb.specs.Kept.{RouterDatabase}
 use Rattle.candidates.specs.Externals.{AreExternals}
 use Rattle.routes.specs.Candidates.{AreCandidates}
 use Rattle.routes.specs.Contents.{contents_at}

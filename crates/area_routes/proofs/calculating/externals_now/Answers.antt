@@ -1,5 +1,5 @@
 use Rattle.std.proofs.Common.{subst}
-use Rattle.routes.specs.lsdb.Kept.{RouterDatabase}
+use Rattle.lsdb.specs.Kept.{RouterDatabase}
 use Rattle.candidates.specs.Externals.{AreExternals}
 use Rattle.routes.specs.Contents.{contents_at}
 use Rattle.area_routes.proofs.calculating.externals_now.Goals as goal

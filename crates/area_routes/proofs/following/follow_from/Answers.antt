@@ -5,7 +5,7 @@ use Rattle.kept_routes.specs.Destinations.{Knows}
 use Rattle.kept_routes.specs.Following.{HaveFollowed}
 use Rattle.kept_routes.specs.declared.follow.Followed.{Followed}
 use Rattle.kept_routes.specs.Sameness.{HaveSameContents}
-use Rattle.routes.specs.lsdb.Kept.{RouterDatabase}
+use Rattle.lsdb.specs.Kept.{RouterDatabase}
 use Rattle.routes.specs.Candidates.{AreCandidates}
 use Rattle.routes.specs.Contents.{contents_at}
 use Rattle.routes.specs.declared.root.Root.{Root}

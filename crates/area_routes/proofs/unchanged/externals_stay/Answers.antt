@@ -1,6 +1,6 @@
 use Rattle.std.proofs.Common.{◌≡◌, subst, sym}
 use Rattle.std.specs.List.{Contains}
-use Rattle.routes.specs.lsdb.Kept.{RouterDatabase}
+use Rattle.lsdb.specs.Kept.{RouterDatabase}
 use Rattle.routes.specs.Contents.{contents_at}
 use Rattle.area_routes.proofs.unchanged.externals_stay.Goals as goal
 

@@ -1,7 +1,7 @@
 use Rattle.std.specs.Prelude.{◌≡◌}
 use Rattle.hooks.specs.Known.{operations_of}
-use Rattle.worker.specs.Askers.{asker_state}
-use Rattle.worker.specs.Turns.{IsListed}
+use Rattle.turns.specs.Askers.{asker_state}
+use Rattle.turns.specs.Turns.{IsListed}
 use Rattle.operator.specs.Answers.{IsAnyFile, IsAnyPath, sources}
 use Rattle.daemon.specs.Talks.{place}
 use Rattle.daemon.proofs.Talked.{Talking}

@@ -1,4 +1,4 @@
-use Rattle.worker.specs.Askers.{asker_state}
+use Rattle.turns.specs.Askers.{asker_state}
 use Rattle.daemon.proofs.Talked.{talked_output}
 use Rattle.daemon.proofs.talk.talk.Goals as goal
 

@@ -1,6 +1,6 @@
 use Rattle.std.proofs.Common.{refl, ap, subst, sym, ◌∙◌}
 use Rattle.area_routes.specs.Kept.{AreKept, AreRoutesOf}
-use Rattle.area_routes.specs.flooding.Kept.{RouterArea}
+use Rattle.area.specs.Kept.{RouterArea}
 use Rattle.flood.proofs.Kept.{are_kept, walks_then}
 use Rattle.flood.proofs.keeping.keep.Goals as goal
 

@@ -1,7 +1,7 @@
 use Rattle.std.proofs.Common.{sym, ap, ◌∙◌}
-use Rattle.invariants.specs.lsdb.Kept.{RouterDatabase}
-use Rattle.invariants.specs.lsdb.Limits.{exceeds as database_exceeds}
-use Rattle.area_routes.specs.flooding.Kept.{RouterArea}
+use Rattle.lsdb.specs.Kept.{RouterDatabase}
+use Rattle.lsdb.specs.Limits.{exceeds as database_exceeds}
+use Rattle.area.specs.Kept.{RouterArea}
 use Rattle.flood.proofs.keeping.pack_and_update_routes.Goals as goal
 
 pub returns-then-exceeds-clause-limit : goal.returns-then-exceeds-clause-limit

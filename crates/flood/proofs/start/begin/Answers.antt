@@ -1,6 +1,6 @@
 use Rattle.std.proofs.Common.{map, ap, ◌∙◌}
 use Rattle.event_rules.specs.Routers.{with_links}
-use Rattle.area_routes.specs.flooding.Links.{present}
+use Rattle.area.specs.Links.{present}
 use Rattle.flood.specs.Starts.{fresh_kept}
 use Rattle.flood.proofs.Starting.{few_links, fresh_links}
 use Rattle.flood.proofs.start.begin.Goals as goal

@@ -2,7 +2,7 @@ use Rattle.std.proofs.Common.{◌≡◌, true, sym, subst, ◌∙◌}
 use Rattle.std.specs.FinMap as finite
 use Rattle.std.specs.List.{Contains}
 use Rattle.std.proofs.lemmas.List.Elements.{Contains-append_left, Contains-append_right}
-use Rattle.routes.specs.lsdb.Copies.{is_aged_out}
+use Rattle.lsdb.specs.Copies.{is_aged_out}
 use Rattle.kept_routes.proofs.Aging.{among_aged, says_same}
 use Rattle.kept_routes.proofs.changes.possibly_changed_keys.Goals as goal
 

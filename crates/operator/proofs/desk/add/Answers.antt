@@ -1,8 +1,8 @@
 use Rattle.std.proofs.Common.{true, false, subst}
-use Rattle.worker.specs.Askers.{asker_state}
+use Rattle.turns.specs.Askers.{asker_state}
 use Rattle.worker.specs.Lives.{senses_of, standing}
-use Rattle.worker.specs.Work.TheVariants as work
-use Rattle.worker.proofs.Askers.{same_state}
+use Rattle.turns.specs.declared.work.Work.TheVariants as work
+use Rattle.turns.proofs.Askers.{same_state}
 use Rattle.operator.proofs.Done.{announced}
 use Rattle.operator.proofs.Served.{served_still}
 use Rattle.operator.proofs.desk.add.Goals as goal

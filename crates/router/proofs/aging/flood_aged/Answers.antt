@@ -1,6 +1,6 @@
 use Rattle.std.proofs.Common.{◌≡◌, ap, sym, ◌∙◌}
-use Rattle.area.specs.lsdb.Copies.{max_age_keys}
-use Rattle.area.specs.received.Links.{Area}
+use Rattle.lsdb.specs.Copies.{max_age_keys}
+use Rattle.received.specs.Links.{Area}
 use Rattle.area.specs.Links.{with_no_sends}
 use Rattle.area.proofs.Doing.{area_rests, area_same}
 use Rattle.event_rules.specs.Endings.{flood_aged}

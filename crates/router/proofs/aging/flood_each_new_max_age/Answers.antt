@@ -1,6 +1,6 @@
 use Rattle.std.proofs.Common.{◌+◌, get_or, refl, sym, ap, ◌∙◌, arith}
-use Rattle.area.specs.received.Links.{Area}
-use Rattle.area.specs.received.AreaStates.{AreaState}
+use Rattle.received.specs.Links.{Area}
+use Rattle.received.specs.AreaStates.{AreaState}
 use Rattle.area.specs.Drafted.{drafts_with}
 use Rattle.area.specs.Links.{flood_new_max_age}
 use Rattle.area.proofs.Acknowledged.{from}

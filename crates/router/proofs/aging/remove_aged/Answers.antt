@@ -1,9 +1,9 @@
 use Rattle.std.proofs.Common.{cond, sym, ap, ◌∙◌}
 use Rattle.std.specs.FinMap as finite
-use Rattle.area.specs.lsdb.Copies.{max_age_keys}
-use Rattle.area.specs.received.Links.{Area, any_exchange_or_loading}
+use Rattle.lsdb.specs.Copies.{max_age_keys}
+use Rattle.received.specs.Links.{Area, any_exchange_or_loading}
 use Rattle.area.specs.Links.{with_no_sends}
-use Rattle.area.specs.received.AreaStates.{AreaState, on_database}
+use Rattle.received.specs.AreaStates.{AreaState, on_database}
 use Rattle.area.proofs.Doing.{area_rests, area_same}
 use Rattle.event_rules.specs.Endings.{remove_aged, stays}
 use Rattle.router.specs.Aging.{without_each}

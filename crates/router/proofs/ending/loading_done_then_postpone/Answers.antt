@@ -1,6 +1,6 @@
 use Rattle.std.proofs.Common.{length, ap, sym, ◌∙◌}
 use Rattle.std.proofs.lemmas.List.{length-map}
-use Rattle.event_rules.specs.received.Links.{Link}
+use Rattle.received.specs.Links.{Link}
 use Rattle.event_rules.specs.Endings.{loading_done, postpone_router_lsa}
 use Rattle.event_rules.specs.Routers.{Router}
 use Rattle.router.specs.Described.{full_router_on}

@@ -1,5 +1,5 @@
 use Rattle.std.proofs.Common.{ap, ◌∙◌}
-use Rattle.event_rules.specs.received.Links.{neighbor_at}
+use Rattle.received.specs.Links.{neighbor_at}
 use Rattle.router.specs.Received.{is_exchange_or_later_named}
 use Rattle.router.proofs.Heard.{exchange_named}
 use Rattle.router.proofs.packets.is_exchange_or_later.Goals as goal

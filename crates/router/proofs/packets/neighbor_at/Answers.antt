@@ -1,7 +1,7 @@
 use Rattle.std.proofs.Common.{◌-◌, length, ap, ◌∙◌, arith}
 use Rattle.std.proofs.lemmas.List.{length-map}
-use Rattle.area.specs.adjacency.Steps.{named_neighbor}
-use Rattle.event_rules.specs.received.Links.{neighbor_at}
+use Rattle.adjacency.specs.Steps.{named_neighbor}
+use Rattle.received.specs.Links.{neighbor_at}
 use Rattle.area.specs.Kept.{KeptLink, RouterArea}
 use Rattle.area.specs.Links.{present}
 use Rattle.area.proofs.Synchronizing.{shown_neighbor}

@@ -1,7 +1,7 @@
 use Rattle.event_rules.specs.EventState.{on_area, on_router}
 use Rattle.event_rules.specs.Originations.{forget_originations}
 use Rattle.event_rules.specs.Ticks.{expire_timers}
-use Rattle.event_rules.specs.received.AreaStates.{on_links}
+use Rattle.received.specs.AreaStates.{on_links}
 use Rattle.std.proofs.Common.{map}
 use Rattle.router.proofs.Making.{then_does}
 use Rattle.router.proofs.ticks.expire_timers.Goals as goal

@@ -1,6 +1,6 @@
 use Rattle.std.proofs.Common.{◌==◌, cond, ap, ◌∙◌, rules}
 use Rattle.std.specs.FinMap as finite
-use Rattle.adjacency.specs.lsdb.Headers.{key_of}
+use Rattle.lsdb.specs.Headers.{key_of}
 use Rattle.adjacency.specs.Retransmissions.{add_retransmission}
 use Rattle.keyed_map.proofs.Helds.{on_ok}
 use Rattle.adjacency.specs.Views.{neighbor_of}

@@ -1,6 +1,6 @@
 use Rattle.std.proofs.Common.{refl, ap, sym, ◌∙◌}
 use Rattle.std.proofs.lemmas.Result.{IfOk-weaker}
-use Rattle.adjacency.specs.lsdb.Copies.{lsa_now}
+use Rattle.lsdb.specs.Copies.{lsa_now}
 use Rattle.adjacency.specs.Floods.{is_any}
 use Rattle.adjacency.specs.Neighbors.{is_exchange_or_later}
 use Rattle.adjacency.proofs.Floods.{floods, rests}

@@ -1,6 +1,6 @@
 use Rattle.std.proofs.Common.{cond, not, ◌&&◌, [], ◌∷◌, ap, sym, ◌∙◌}
-use Rattle.adjacency.specs.lsdb.Copies.{lsa_now}
-use Rattle.adjacency.specs.lsdb.Headers.{key_of, lsa_key}
+use Rattle.lsdb.specs.Copies.{lsa_now}
+use Rattle.lsdb.specs.Headers.{key_of, lsa_key}
 use Rattle.adjacency.specs.Contents.{Step, Updates, no_sends}
 use Rattle.adjacency.specs.Retransmissions.{add_retransmission, remove_retransmission}
 use Rattle.adjacency.specs.Floods.{without_satisfied_request}

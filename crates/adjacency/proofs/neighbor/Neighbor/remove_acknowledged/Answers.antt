@@ -1,6 +1,6 @@
 use Rattle.std.proofs.Common.{cond, ap, sym, ◌∙◌, rules, refl}
 use Rattle.std.specs.FinMap as finite
-use Rattle.adjacency.specs.lsdb.Headers.{key_of}
+use Rattle.lsdb.specs.Headers.{key_of}
 use Rattle.keyed_map.proofs.Helds.{on_ok}
 use Rattle.adjacency.specs.Retransmissions.{is_entry, remove_retransmission}
 use Rattle.adjacency.specs.Views.{neighbor_of}

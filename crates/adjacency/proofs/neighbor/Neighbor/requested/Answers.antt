@@ -1,7 +1,7 @@
 use Rattle.std.proofs.Common.{ap, sym, ◌∙◌}
 use Rattle.std.specs.FinMap as finite
-use Rattle.adjacency.specs.lsdb.Copies.{lsa_now}
-use Rattle.adjacency.specs.lsdb.Headers.{key_of}
+use Rattle.lsdb.specs.Copies.{lsa_now}
+use Rattle.lsdb.specs.Headers.{key_of}
 use Rattle.adjacency.specs.Floods.{request_of}
 use Rattle.adjacency.proofs.Neighbors.{requests_nothing_now, requests_now}
 use Rattle.adjacency.proofs.neighbor.Neighbor.requested.Goals as goal

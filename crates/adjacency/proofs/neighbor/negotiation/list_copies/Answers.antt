@@ -1,6 +1,6 @@
 use Rattle.std.proofs.Common.{ap, sym, ◌∙◌}
 use Rattle.std.specs.List.{fold}
-use Rattle.adjacency.specs.lsdb.Copies.{is_aged_out}
+use Rattle.lsdb.specs.Copies.{is_aged_out}
 use Rattle.adjacency.specs.Exchanges.{is_young, with_key}
 use Rattle.adjacency.proofs.Lists.{filled_where}
 use Rattle.adjacency.proofs.neighbor.negotiation.list_copies.Goals as goal

@@ -1,7 +1,7 @@
 use Rattle.std.proofs.Common.{◌≡◌}
 use Rattle.std.specs.FinMap as finite
 use Rattle.std.specs.List.{fold}
-use Rattle.adjacency.specs.lsdb.Copies.{is_aged_out}
+use Rattle.lsdb.specs.Copies.{is_aged_out}
 use Rattle.adjacency.specs.Exchanges.{is_young, with_key}
 use Rattle.adjacency.proofs.neighbor.negotiation.list_copies.Given as goal
 

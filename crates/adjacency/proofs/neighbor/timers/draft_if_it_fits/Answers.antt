@@ -1,7 +1,7 @@
 use Rattle.std.proofs.Common.{◌≡◌, ◌≤◌, ◌+◌, true, map, ap, subst, ◌∙◌}
 use Rattle.std.proofs.lemmas.Bool.{le-leb}
 use Rattle.std.specs.Prelude.{nat_le}
-use Rattle.adjacency.specs.lsdb.Copies.{lsa_now}
+use Rattle.lsdb.specs.Copies.{lsa_now}
 use Rattle.adjacency.specs.Contents.{Updates}
 use Rattle.adjacency.specs.Drafts.{drafting}
 use Rattle.adjacency.specs.Retransmissions.{that_fit}

@@ -3,7 +3,7 @@ use mathlib.Core.Bool.{false≢true}
 use Rattle.std.specs.FinMap as finite
 use Rattle.words.specs.declared.key.Key.{Key}
 use Rattle.lsa.specs.Headers.{key_of}
-use Rattle.adjacency.specs.lsdb.Headers.{Header}
+use Rattle.lsdb.specs.Headers.{Header}
 use Rattle.adjacency.specs.Adjacencies.{mismatch_step}
 use Rattle.adjacency.specs.Contents.{Acknowledges, no_sends}
 use Rattle.adjacency.specs.Neighbors.{Neighbor}

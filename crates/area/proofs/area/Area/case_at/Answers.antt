@@ -2,7 +2,7 @@ use Rattle.std.proofs.Common.{◌-◌, ◌<◌, List, length, get_or, map, ap, �
 use Rattle.std.proofs.lemmas.List.{length-map}
 use Rattle.std.specs.FinMap as finite
 use Rattle.lsa.specs.Headers.{key_of}
-use Rattle.adjacency.specs.lsdb.Headers.{lsa_key}
+use Rattle.lsdb.specs.Headers.{lsa_key}
 use Rattle.received.specs.Cases.{case_of_readable}
 use Rattle.received.specs.Links.{Link, any_exchange_or_loading, neighbor_at}
 use Rattle.area.specs.Kept.{KeptLink}

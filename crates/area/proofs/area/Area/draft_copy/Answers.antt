@@ -2,7 +2,7 @@ use Rattle.std.proofs.Common.{List, map, refl, ap, ◌∙◌}
 use Rattle.std.specs.FinMap as finite
 use Rattle.keyed_map.proofs.Helds.{on_ok}
 use Rattle.lsa.specs.Headers.{key_of}
-use Rattle.adjacency.specs.lsdb.Copies.{mark_sent}
+use Rattle.lsdb.specs.Copies.{mark_sent}
 use Rattle.received.specs.Links.{Area}
 use Rattle.received.specs.Updates.{send_copy}
 use Rattle.area.specs.Drafted.{drafts_with}

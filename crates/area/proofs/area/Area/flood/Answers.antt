@@ -1,8 +1,8 @@
 use Rattle.std.proofs.Common.{List, cond, map, refl, ap, sym, ◌∙◌}
 use Rattle.std.specs.Prelude.{None}
 use Rattle.std.specs.FinMap as finite
-use Rattle.adjacency.specs.lsdb.Copies.{lsa_now, mark_sent}
-use Rattle.adjacency.specs.lsdb.Headers.{key_of, lsa_key}
+use Rattle.lsdb.specs.Copies.{lsa_now, mark_sent}
+use Rattle.lsdb.specs.Headers.{key_of, lsa_key}
 use Rattle.keyed_map.proofs.Helds.{on_ok}
 use Rattle.area.specs.Drafted.{drafts_with}
 use Rattle.area.specs.Kept.{KeptLink, RouterArea}

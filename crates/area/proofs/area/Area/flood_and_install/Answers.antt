@@ -2,8 +2,8 @@ use Rattle.std.proofs.Common.{◌≡◌, ◌++◌, List, cond, drop, length, map
 use Rattle.std.proofs.Common.{arith}
 use Rattle.std.proofs.lemmas.List.{length-map}
 use Rattle.std.specs.Prelude.{Some}
-use Rattle.adjacency.specs.lsdb.Copies.{install_flooded, mark_sent}
-use Rattle.adjacency.specs.lsdb.Headers.{Header, key_of, lsa_key}
+use Rattle.lsdb.specs.Copies.{install_flooded, mark_sent}
+use Rattle.lsdb.specs.Headers.{Header, key_of, lsa_key}
 use Rattle.keyed_map.proofs.Helds.{on_ok}
 use Rattle.received.specs.Flooding.{flood_to}
 use Rattle.received.specs.Links.{change_link, delay_acknowledgment}

@@ -1,7 +1,7 @@
 use Rattle.std.proofs.Common.{cond, sym, ap, ◌∙◌}
 use Rattle.std.specs.Prelude.{None}
 use Rattle.std.specs.FinMap as finite
-use Rattle.adjacency.specs.lsdb.Copies.{lsa_now}
+use Rattle.lsdb.specs.Copies.{lsa_now}
 use Rattle.received.specs.Flooding.{flood}
 use Rattle.received.specs.AreaStates.{AreaState}
 use Rattle.area.specs.Kept.{RouterArea}

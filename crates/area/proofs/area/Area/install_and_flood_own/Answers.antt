@@ -1,8 +1,8 @@
 use Rattle.std.proofs.Common.{◌≡◌, map, ap, ◌∙◌}
 use Rattle.std.specs.Prelude.{None}
 use Rattle.std.specs.FinMap as finite
-use Rattle.adjacency.specs.lsdb.Copies.{install_originated}
-use Rattle.adjacency.specs.lsdb.Headers.{key_of}
+use Rattle.lsdb.specs.Copies.{install_originated}
+use Rattle.lsdb.specs.Headers.{key_of}
 use Rattle.received.specs.Flooding.{flood}
 use Rattle.received.specs.AreaStates.{AreaState}
 use Rattle.keyed_map.proofs.Helds.{on_ok}

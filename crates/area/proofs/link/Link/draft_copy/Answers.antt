@@ -1,6 +1,6 @@
 use Rattle.std.proofs.Common.{[], ◌∷◌, ap, ◌∙◌}
 use Rattle.keyed_map.proofs.Helds.{on_ok}
-use Rattle.adjacency.specs.lsdb.Copies.{lsa_now}
+use Rattle.lsdb.specs.Copies.{lsa_now}
 use Rattle.adjacency.specs.Contents.{Updates}
 use Rattle.adjacency.specs.Drafts.{drafting}
 use Rattle.area.specs.Kept.{KeptLink}

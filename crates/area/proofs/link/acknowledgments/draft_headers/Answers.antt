@@ -1,6 +1,6 @@
 use Rattle.std.proofs.Common.{List, sym, ap, ◌∙◌}
 use Rattle.words.specs.declared.key.Key.{Key}
-use Rattle.adjacency.specs.lsdb.Headers.{Header}
+use Rattle.lsdb.specs.Headers.{Header}
 use Rattle.adjacency.specs.Contents.{Acknowledges}
 use Rattle.adjacency.specs.Drafts.{drafting}
 use Rattle.adjacency.proofs.Floods.{drafting-none}

@@ -4,7 +4,7 @@ use Rattle.area_routes.proofs.Limits.{within}
 use Rattle.area_routes.specs.Kept.{AreRoutesOf}
 use Rattle.area_routes.specs.Offers.{AreCandidatesOf}
 use Rattle.event_rules.specs.Routers.{Router}
-use Rattle.area_routes.specs.flooding.Kept.{RouterArea}
+use Rattle.area.specs.Kept.{RouterArea}
 use Rattle.flood.specs.Offers.{AreCandidatesNow}
 use Rattle.flood.proofs.Offering.{of_parts, of_router}
 use Rattle.flood.proofs.router_core.Core.candidates.Goals as goal

@@ -1,7 +1,7 @@
 use Rattle.std.proofs.Common.{ap, refl, sym, subst, ◌∙◌}
 use Rattle.event_rules.specs.RoomLaws.{IsRoomy}
 use Rattle.event_rules.specs.Refusals.{exceeds}
-use Rattle.area_routes.specs.flooding.Drafted.{nothing_at}
+use Rattle.area.specs.Drafted.{nothing_at}
 use Rattle.event_rules.specs.Routers.{Router}
 use Rattle.router.specs.Kept.{KeptRouter}
 use Rattle.flood.proofs.Kept.{begun}

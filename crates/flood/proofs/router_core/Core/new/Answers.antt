@@ -10,8 +10,8 @@ use Rattle.invariants.specs.Keeping.{HasNumbersInRange}
 use Rattle.invariants.proofs.Keeping.{instances_stay_in_range}
 use Rattle.invariants.proofs.Acknowledged.{routers_stay_in_order}
 use Rattle.invariants.proofs.Limits.{others_stay_within_limits}
-use Rattle.area_routes.specs.flooding.Drafted.{nothing_at}
-use Rattle.area_routes.specs.flooding.Kept.{RouterArea}
+use Rattle.area.specs.Drafted.{nothing_at}
+use Rattle.area.specs.Kept.{RouterArea}
 use Rattle.router.specs.Kept.{KeptRouter}
 use Rattle.flood.proofs.Kept.{begun}
 use Rattle.flood.proofs.router_core.Core.new.Goals as goal

@@ -1,5 +1,5 @@
 use Rattle.std.proofs.Common.{◌≡◌, ◌-◌, ◌+◌, ◌<◌, ◌⊎◌, length, map, arith}
-use Rattle.area_routes.specs.flooding.Links.{present}
+use Rattle.area.specs.Links.{present}
 use Rattle.flood.proofs.router_core.Core.owes.Goals as goal
 use Rattle.flood.proofs.Owing.{none_owed, one_owed}
 

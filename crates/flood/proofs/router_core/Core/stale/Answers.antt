@@ -5,7 +5,7 @@ use Rattle.area_routes.proofs.Limits.{within}
 use Rattle.area_routes.specs.Kept.{AreKept}
 use Rattle.area_routes.specs.Offers.{IsStaleOf}
 use Rattle.event_rules.specs.Routers.{Router}
-use Rattle.area_routes.specs.flooding.Kept.{RouterArea}
+use Rattle.area.specs.Kept.{RouterArea}
 use Rattle.flood.specs.Offers.{IsStaleNow}
 use Rattle.flood.proofs.Offering.{of_parts, of_router}
 use Rattle.flood.proofs.router_core.Core.stale.Goals as goal

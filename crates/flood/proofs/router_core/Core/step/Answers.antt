@@ -2,7 +2,7 @@ use Rattle.std.proofs.Common.{sym, ap, ◌∙◌, subst}
 use Rattle.event_rules.specs.RoomLaws.{IsRoomy}
 use Rattle.event_rules.specs.Refusals.{exceeds}
 use Rattle.event_rules.specs.Routers.{Router}
-use Rattle.area_routes.specs.flooding.Drafted.{nothing_at}
+use Rattle.area.specs.Drafted.{nothing_at}
 use Rattle.router.specs.Kept.{KeptRouter}
 use Rattle.invariants.specs.InOrder.{IsConsistent}
 use Rattle.invariants.specs.Keeping.{HasNumbersInRange}

@@ -1,10 +1,10 @@
 use Rattle.std.proofs.Common.{refl}
 use Rattle.hooks.specs.Known.{operations_of}
-use Rattle.worker.specs.Askers.{asker_state}
+use Rattle.turns.specs.Askers.{asker_state}
 use Rattle.console.specs.declared.command.Command.TheVariants as commands
 use Rattle.worker.specs.Lives.{senses_of, standing}
-use Rattle.worker.specs.Turns.{IsListed}
-use Rattle.worker.specs.Work.TheVariants as work
+use Rattle.turns.specs.Turns.{IsListed}
+use Rattle.turns.specs.declared.work.Work.TheVariants as work
 use Rattle.operator.specs.Answers.{change, sources}
 use Rattle.operator.specs.Shown.{ShowsNeighbors, ShowsTable}
 use Rattle.operator.proofs.Answered.{made, moved, read_out}

@@ -1,9 +1,9 @@
 use Rattle.std.proofs.Common.{refl, subst}
 use Rattle.hooks.specs.Known.{operations_of, told_by}
-use Rattle.worker.specs.Askers.{asker_state}
+use Rattle.turns.specs.Askers.{asker_state}
 use Rattle.worker.specs.Lives.{senses_of, standing}
-use Rattle.worker.specs.Work.TheVariants as work
-use Rattle.worker.proofs.Askers.{same_state}
+use Rattle.turns.specs.declared.work.Work.TheVariants as work
+use Rattle.turns.proofs.Askers.{same_state}
 use Rattle.operator.specs.Answers.{IsServed, learnt}
 use Rattle.operator.specs.Served.{IsUnlessFault}
 use Rattle.operator.proofs.Done.{followed}

@@ -1,8 +1,8 @@
 use Rattle.std.proofs.Common.{subst}
 use Rattle.hooks.specs.Known.{operations_of}
-use Rattle.worker.specs.Askers.{asker_state}
+use Rattle.turns.specs.Askers.{asker_state}
 use Rattle.worker.specs.Lives.{senses_of, standing}
-use Rattle.worker.specs.Turns.{IsListed}
+use Rattle.turns.specs.Turns.{IsListed}
 use Rattle.operator.specs.Answers.{change, sources}
 use Rattle.operator.specs.Served.{IsLineServed, IsUnlessFault}
 use Rattle.operator.proofs.Answered.{obeyed_from}

@@ -1,4 +1,4 @@
-use Rattle.worker.specs.Askers.{asker_state}
+use Rattle.turns.specs.Askers.{asker_state}
 use Rattle.worker.specs.Lives.{senses_of, standing}
 use Rattle.operator.proofs.Served.{unserved_still}
 use Rattle.operator.proofs.desk.Desk.publish.Goals as goal

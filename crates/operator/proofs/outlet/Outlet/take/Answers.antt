@@ -1,5 +1,5 @@
 use Rattle.std.proofs.Common.{refl}
-use Rattle.worker.specs.Askers.{asker_state}
+use Rattle.turns.specs.Askers.{asker_state}
 use Rattle.worker.specs.Lives.{senses_of, standing}
 use Rattle.operator.proofs.Done.{done, served, unserved}
 use Rattle.operator.proofs.outlet.Outlet.take.Goals as goal

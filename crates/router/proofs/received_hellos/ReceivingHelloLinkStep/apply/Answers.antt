@@ -1,8 +1,8 @@
 use Rattle.std.proofs.Common.{Bool, refl, sym, ap, ◌∙◌}
 use Rattle.std.specs.Prelude.{Some}
 use Rattle.keyed_map.proofs.Helds.{on_ok}
-use Rattle.area.specs.adjacency.Adjacencies.{after_hello}
-use Rattle.area.specs.adjacency.Drafts.{drafting}
+use Rattle.adjacency.specs.Adjacencies.{after_hello}
+use Rattle.adjacency.specs.Drafts.{drafting}
 use Rattle.area.specs.Links.{with_neighbor}
 use Rattle.router.proofs.ReceivedHellos.{accepted, accepted_sends, ignored, ignored_sends}
 use Rattle.router.proofs.received_hellos.ReceivingHelloLinkStep.apply.Goals as goal

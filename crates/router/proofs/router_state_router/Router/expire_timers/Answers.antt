@@ -1,6 +1,6 @@
 use Rattle.std.proofs.Common.{map, refl, ◌∙◌}
 use Rattle.area.specs.Kept.{RouterArea}
-use Rattle.area.specs.received.AreaStates.{on_links}
+use Rattle.received.specs.AreaStates.{on_links}
 use Rattle.event_rules.specs.Ticks.{expire_timers}
 use Rattle.router.proofs.Answered.{makes_alone}
 use Rattle.router.proofs.Leaves.{appends_expiry, keeps_expiry}

@@ -1,8 +1,8 @@
 use Rattle.std.proofs.Common.{refl, sym, ap, ◌∙◌}
 use Rattle.std.specs.Prelude.{Option}
 use Rattle.std.specs.FinMap as finite
-use Rattle.area.specs.lsdb.Copies.{DatabaseCopy}
-use Rattle.area.specs.received.Links.{Area}
+use Rattle.lsdb.specs.Copies.{DatabaseCopy}
+use Rattle.received.specs.Links.{Area}
 use Rattle.area.specs.Links.{with_no_sends}
 use Rattle.event_rules.specs.EventState.{on_area}
 use Rattle.event_rules.specs.Originations.{flush, flush_copy}

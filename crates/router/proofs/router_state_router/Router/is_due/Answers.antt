@@ -1,7 +1,7 @@
 use Rattle.std.proofs.Common.{◌||◌, sym, ap, ◌∙◌}
 use Rattle.std.specs.FinMap as finite
 use Rattle.std.specs.FinSet as set
-use Rattle.area.proofs.adjacency.Neighbors.{contains_key_of}
+use Rattle.adjacency.proofs.Neighbors.{contains_key_of}
 use Rattle.event_rules.specs.Originations.{refresh_time_is_over}
 use Rattle.router.proofs.router_state_router.Router.is_due.Goals as goal
 

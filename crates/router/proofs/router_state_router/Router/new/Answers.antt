@@ -1,7 +1,7 @@
 use Rattle.std.proofs.Common.{◌≡◌, length, sym, ap, subst, ◌∙◌, arith}
 use Rattle.std.proofs.lemmas.List.{length-map}
-use Rattle.area.specs.adjacency.Views.{keys_of}
-use Rattle.area.proofs.adjacency.Neighbors.{no_keys}
+use Rattle.adjacency.specs.Views.{keys_of}
+use Rattle.adjacency.proofs.Neighbors.{no_keys}
 use Rattle.area.specs.Kept.{RouterArea}
 use Rattle.area.specs.Links.{committed_link}
 use Rattle.router.specs.Owned.{AreOwn}

@@ -1,10 +1,10 @@
 use Rattle.std.proofs.Common.{refl, ap, ◌∙◌}
-use Rattle.area.specs.adjacency.Views.{keys_of}
+use Rattle.adjacency.specs.Views.{keys_of}
 use Rattle.event_rules.specs.EventState.{on_area, on_router}
 use Rattle.event_rules.specs.Originations.{as_originated, install_and_flood}
 use Rattle.event_rules.specs.Routers.{Router}
 use Rattle.router.specs.Kept.{KeptRouter}
-use Rattle.area.proofs.adjacency.Neighbors.{keys_remove}
+use Rattle.adjacency.proofs.Neighbors.{keys_remove}
 use Rattle.router.proofs.Answered.{area_does, area_stays}
 use Rattle.router.proofs.Edited.{notes}
 use Rattle.router.proofs.Leaves.{appends_install, keeps_install}

@@ -1,7 +1,7 @@
 use Rattle.std.proofs.Common.{ap, ◌∙◌}
 use Rattle.keyed_map.proofs.Helds.{on_ok}
-use Rattle.area.specs.adjacency.Views.{keys_of}
-use Rattle.area.proofs.adjacency.Sets.{keys_insert}
+use Rattle.adjacency.specs.Views.{keys_of}
+use Rattle.adjacency.proofs.Sets.{keys_insert}
 use Rattle.router.proofs.Edited.{waits}
 use Rattle.router.proofs.router_state_router.Router.postpone.Goals as goal
 

@@ -1,9 +1,9 @@
 use Rattle.std.proofs.Common.{length, refl, ap, arith}
-use Rattle.area.specs.adjacency.Contents.{no_sends}
-use Rattle.area.specs.adjacency.Neighbors.{Neighbor}
-use Rattle.area.specs.adjacency.Retransmissions.{after_acknowledgment}
-use Rattle.area.specs.lsdb.Copies.{Database}
-use Rattle.area.specs.received.Links.{Area}
+use Rattle.adjacency.specs.Contents.{no_sends}
+use Rattle.adjacency.specs.Neighbors.{Neighbor}
+use Rattle.adjacency.specs.Retransmissions.{after_acknowledgment}
+use Rattle.lsdb.specs.Copies.{Database}
+use Rattle.received.specs.Links.{Area}
 use Rattle.event_rules.specs.Packets.{receive_acknowledgment}
 use Rattle.router.proofs.Answered.{area_does}
 use Rattle.router.proofs.Conversed.{appends_acknowledgment, keeps_acknowledgment}

@@ -1,7 +1,7 @@
 use Rattle.std.proofs.Common.{ℕ, length, refl, ap, arith}
-use Rattle.area.specs.adjacency.Descriptions.{after_description}
-use Rattle.area.specs.lsdb.Copies.{Database}
-use Rattle.area.specs.received.Links.{Area}
+use Rattle.adjacency.specs.Descriptions.{after_description}
+use Rattle.lsdb.specs.Copies.{Database}
+use Rattle.received.specs.Links.{Area}
 use Rattle.event_rules.specs.EventState.{on_area}
 use Rattle.event_rules.specs.Packets.{receive_description}
 use Rattle.router.specs.Kept.{KeptRouter}

@@ -1,5 +1,5 @@
 use Rattle.std.proofs.Common.{ℕ, length, refl, ap, arith}
-use Rattle.area.specs.received.Links.{Area}
+use Rattle.received.specs.Links.{Area}
 use Rattle.event_rules.specs.EventState.{on_area}
 use Rattle.event_rules.specs.Packets.{receive_hello}
 use Rattle.router.specs.Kept.{KeptRouter}

@@ -1,7 +1,7 @@
 use Rattle.std.proofs.Common.{refl, sym, ap, subst, ◌∙◌}
 use Rattle.std.specs.Prelude.{Option}
-use Rattle.area.specs.adjacency.lsdb.Headers.{Lsa}
-use Rattle.event_rules.specs.received.Updates.{after_case, case_at, goes_on}
+use Rattle.lsdb.specs.Headers.{Lsa}
+use Rattle.received.specs.Updates.{after_case, case_at, goes_on}
 use Rattle.event_rules.specs.Packets.{after_parsed}
 use Rattle.area.specs.Cases.{case_of}
 use Rattle.area.specs.Links.{with_no_sends}

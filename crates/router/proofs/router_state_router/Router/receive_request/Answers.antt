@@ -1,7 +1,7 @@
 use Rattle.std.proofs.Common.{◌≤◌, length, refl, ap, ◌∙◌, arith}
-use Rattle.area.specs.adjacency.Steps.{after_request}
-use Rattle.area.specs.lsdb.Copies.{Database}
-use Rattle.area.specs.received.Links.{Area, neighbor_at}
+use Rattle.adjacency.specs.Steps.{after_request}
+use Rattle.lsdb.specs.Copies.{Database}
+use Rattle.received.specs.Links.{Area, neighbor_at}
 use Rattle.event_rules.specs.Packets.{neighbor_is_exchange_or_later, receive_request}
 use Rattle.router.proofs.Answered.{area_does}
 use Rattle.router.proofs.Conversed.{appends_request, keeps_request}

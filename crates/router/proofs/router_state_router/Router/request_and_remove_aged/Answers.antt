@@ -1,8 +1,8 @@
 use Rattle.std.proofs.Common.{refl, ◌∙◌}
-use Rattle.area.specs.lsdb.Copies.{Database}
-use Rattle.area.specs.adjacency.Requests.{request_next}
-use Rattle.area.specs.adjacency.Views.{keys_of}
-use Rattle.area.specs.received.Links.{Area, Link}
+use Rattle.lsdb.specs.Copies.{Database}
+use Rattle.adjacency.specs.Requests.{request_next}
+use Rattle.adjacency.specs.Views.{keys_of}
+use Rattle.received.specs.Links.{Area, Link}
 use Rattle.event_rules.specs.Endings.{remove_aged, request_all}
 use Rattle.event_rules.specs.EventState.{on_area, on_router}
 use Rattle.router.specs.Kept.{KeptRouter}

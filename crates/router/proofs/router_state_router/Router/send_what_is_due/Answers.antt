@@ -1,7 +1,7 @@
 use Rattle.std.proofs.Common.{refl, ◌∙◌}
-use Rattle.area.specs.lsdb.Copies.{Database}
-use Rattle.area.specs.adjacency.Retransmissions.{send_again}
-use Rattle.area.specs.received.Links.{Area, Link}
+use Rattle.lsdb.specs.Copies.{Database}
+use Rattle.adjacency.specs.Retransmissions.{send_again}
+use Rattle.received.specs.Links.{Area, Link}
 use Rattle.event_rules.specs.Ticks.{send_acknowledgments, send_all_again, send_hellos}
 use Rattle.router.proofs.Answered.{area_does, area_stays, area_then}
 use Rattle.router.proofs.Leaves.{appends_acknowledgments, appends_again, appends_hellos}

@@ -1,8 +1,8 @@
 use Rattle.std.proofs.Common.{◌≡◌, length, map, refl, ap, ◌∙◌, arith}
 use Rattle.std.proofs.lemmas.List.{length-map}
 use Rattle.area.specs.Links.{present}
-use Rattle.area.specs.received.Links.{change_link}
-use Rattle.area.specs.received.AreaStates.{on_links}
+use Rattle.received.specs.Links.{change_link}
+use Rattle.received.specs.AreaStates.{on_links}
 use Rattle.area.proofs.OneLink.{changed_after, changed_before}
 use Rattle.event_rules.specs.Commands.{after_link_down, taken_down}
 use Rattle.event_rules.specs.Routers.{Router}

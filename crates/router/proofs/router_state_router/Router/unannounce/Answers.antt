@@ -1,10 +1,10 @@
 use Rattle.std.proofs.Common.{sym, ap, subst, ◌∙◌}
 use Rattle.keyed_map.proofs.Helds.{on_ok}
-use Rattle.area.specs.adjacency.Views.{keys_of}
+use Rattle.adjacency.specs.Views.{keys_of}
 use Rattle.event_rules.specs.Routers.{Router}
 use Rattle.router.specs.Kept.{KeptRouter}
 use Rattle.router.specs.Owned.{AreOwn}
-use Rattle.area.proofs.adjacency.Neighbors.{keys_remove}
+use Rattle.adjacency.proofs.Neighbors.{keys_remove}
 use Rattle.router.proofs.Announced.{remove_own}
 use Rattle.router.proofs.Edited.{withdraws}
 use Rattle.router.proofs.Making.{refused}

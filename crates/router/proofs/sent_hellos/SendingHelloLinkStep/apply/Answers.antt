@@ -1,6 +1,6 @@
 use Rattle.std.proofs.Common.{[], ◌∷◌, refl, sym, ap, ◌∙◌}
-use Rattle.area.specs.adjacency.Contents.{SendsHello}
-use Rattle.area.specs.adjacency.Drafts.{drafting}
+use Rattle.adjacency.specs.Contents.{SendsHello}
+use Rattle.adjacency.specs.Drafts.{drafting}
 use Rattle.keyed_map.proofs.Helds.{on_ok}
 use Rattle.router.proofs.SentHellos.{greeted, greeting_sent, nothing_sent, silent}
 use Rattle.router.proofs.sent_hellos.SendingHelloLinkStep.apply.Goals as goal

@@ -1,5 +1,5 @@
 use Rattle.std.proofs.Common.{subst, sym}
-use Rattle.flood.specs.event_rules.Routers.{Router}
+use Rattle.event_rules.specs.Routers.{Router}
 use Rattle.flood.specs.Replay.{IsAfterEvents}
 use Rattle.turns.proofs.FromSome.{candidates_of_some}
 use Rattle.turns.proofs.taker.BookTaker.candidates.Goals as goal

@@ -1,7 +1,7 @@
 use Rattle.std.proofs.Common.{◌≤◌, ap, subst, sym, ◌∙◌}
 use Rattle.std.specs.Prelude.{◌↔◌, IfErr, IfSome, IsTrue, Result}
 use Rattle.flood.specs.declared.book.error.BookError.{BookError}
-use Rattle.flood.specs.event_rules.Routers.{Router}
+use Rattle.event_rules.specs.Routers.{Router}
 use Rattle.flood.specs.Offers.{IsStaleNow}
 use Rattle.flood.specs.Replay.{BookView}
 use Rattle.flood.proofs.Allowed.{allowed}

@@ -1,5 +1,5 @@
 use Rattle.std.proofs.Common.{◌≤◌, ap, subst, sym, ◌∙◌}
-use Rattle.flood.specs.event_rules.Routers.{Router}
+use Rattle.event_rules.specs.Routers.{Router}
 use Rattle.flood.specs.Replay.{BookView, IsAfterEvents}
 use Rattle.turns.specs.Turns.{announces}
 use Rattle.turns.proofs.taker.BookTaker.wants.Goals as goal
