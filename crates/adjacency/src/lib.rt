@@ -1,8 +1,5 @@
-//! The conversation with a neighbor: its states, its lists and what is sent to it (RFC 2328,
-//! section 10).
-//!
-//! The implementation of the neighbor state machine (RFC 2328, section 10) for a neighbor that
-//! isn't Down.
+//! The conversation with a neighbor (RFC 2328, section 10): its states, its lists, what is sent to
+//! it, and the neighbor state machine for a neighbor that isn't Down.
 //!
 //! A call that errors with `AllocError` may have done a part of its work. The caller then rolls
 //! back what it changes, and drops the drafts that it adds to.

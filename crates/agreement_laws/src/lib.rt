@@ -1,11 +1,8 @@
 //! Laws about when the databases of neighbors agree, each the contract of a function that does
-//! nothing: how new instances are, and that what a router holds was exchanged with its neighbors.
-//! On the exchange of Descriptions: what is requested, what moves it, and how it goes on between
-//! two.
-//!
-//! Worked conversations between routers, as theorems about the rules (RFC 2328, sections 9 to 13),
-//! each the contract of a function with an empty body: each holds for every router that satisfies
-//! the stated conditions.
+//! nothing: how new instances are, and that what a router holds was exchanged with its neighbors;
+//! and on the exchange of Descriptions: what is requested, what moves it, and how it goes on
+//! between two. Worked conversations between routers are theorems about the rules (RFC 2328,
+//! sections 9 to 13), each for every router that satisfies the stated conditions.
 #![tactic(auto)]
 
 pub mod answers;

@@ -13,7 +13,7 @@ use Rattle.area_routes.specs.Kept.{KnowsMatching, KnowsWalk}
 use Rattle.area_routes.specs.declared.matching.Matching.{Matching}
 use Rattle.area_routes.specs.declared.matching.Matching.TheVariants.{Unknown}
 use Rattle.area_routes.proofs.Candidates.{carried, inner_carried}
-use Rattle.kept_routes.specs.ExternalUpdatesLaws.{InnerRoutesAreKept}
+use Rattle.kept_routes.specs.ExternalLaws.{InnerRoutesAreKept}
 use Rattle.kept_routes.specs.Sameness.{HaveSameContents}
 
 -- nothing is known of answers if none are known to exist

@@ -6,7 +6,7 @@ use Rattle.area_routes.specs.Kept.{AreInnerBy, StayAnswered}
 use Rattle.candidates.specs.declared.inner.InnerRoutes.{InnerRoutes}
 use Rattle.kept_routes.specs.Kept.{KeptWalk}
 use Rattle.kept_routes.specs.Sameness.{HaveSameContents}
-use Rattle.kept_routes.specs.ExternalUpdatesLaws.{InnerRoutesAreKept}
+use Rattle.kept_routes.specs.ExternalLaws.{InnerRoutesAreKept}
 use Rattle.kept_routes.specs.Placing.{AreAllAmong, HasAnother}
 use Rattle.routes.specs.Candidates.{AreCandidates}
 use Rattle.routes.specs.Contents.{Contents}

@@ -11,7 +11,7 @@ use Rattle.lsa.specs.declared.body.NetworkLsa.{NetworkLsa}
 use Rattle.lsa.specs.declared.body.RouterLsa.{RouterLsa}
 use Rattle.candidates.proofs.KeyNodes.{network_said, router_said}
 use Rattle.candidates.proofs.Lists.{adds_both, adds_none, adds_one, adds_same}
-use Rattle.candidates.proofs.AreaGraphWhole.{one_place}
+use Rattle.candidates.proofs.GraphWhole.{one_place}
 use Rattle.candidates.specs.Entries.{IsListedAt}
 use Rattle.candidates.specs.Graphs.{Adds, AreLinksFrom, IsLinkFrom, OfEach, StandsAt}
 use Rattle.candidates.specs.Links.{IsExitTo}

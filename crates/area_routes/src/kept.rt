@@ -28,7 +28,7 @@ use crate::unchanged::{area_lsas_are_unchanged, candidates_stay, externals_stay}
 use area::Area;
 use candidates::{AreaGraph, Calculated, ExternalAdvertisement, InnerRoutes};
 use kept_routes::Routes;
-use kept_routes::external_updates_laws::inner_routes_are_kept;
+use kept_routes::external_laws::inner_routes_are_kept;
 use kept_routes::laws::{candidates_are_kept, walks_are_kept};
 use keyed_map::{Pages, RouteAnswers};
 use routes::{Root, compare, rows_of, table_among, table_of};

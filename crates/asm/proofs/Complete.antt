@@ -29,7 +29,7 @@ use Rattle.asm.specs.declared.line.Terms.{Terms}
 use Rattle.asm.specs.declared.line.Terms.TheVariants as terms
 use Rattle.asm.specs.declared.line.Range.{Range}
 use Rattle.asm.specs.declared.line.RegisterContent.TheVariants as contents
-use Rattle.asm.specs.AsmWordsNumbers.{number_of, distance_of}
+use Rattle.asm.specs.WordNumbers.{number_of, distance_of}
 use Rattle.asm.specs.Words.{hook_word, operation_word, test_word, load_word, store_word}
 use Rattle.asm.specs.Words.{reorder_word, register_word, register_table, register_of}
 use Rattle.asm.specs.Words.{extension_word, Word}

@@ -7,7 +7,7 @@ use Rattle.asm.specs.declared.line.AssemblyLine.{AssemblyLine}
 use Rattle.asm.specs.declared.line.Item.{Item}
 use Rattle.asm.specs.Words.{Word}
 use Rattle.asm.specs.Forms.{Spells}
-use Rattle.asm.specs.AsmLinesViews.{views, item, item_view, items, SpellsItem}
+use Rattle.asm.specs.LineViews.{views, item, item_view, items, SpellsItem}
 use Rattle.asm.specs.Text.{words_in, Reads, Readings, AddsReading}
 use Rattle.asm.specs.Reading.{line_of}
 use Rattle.asm.proofs.Complete.{complete}

@@ -19,4 +19,4 @@ pub mod Seen
 pub mod Items
 pub mod Spaced
 pub mod LineWords
-pub mod AsmLinesWhole
+pub mod LineWhole

@@ -3,7 +3,7 @@ use Rattle.std.proofs.Common.{◌≡◌, ℕ, ◌+◌, ◌<◌, zero, suc, List,
 use Rattle.std.proofs.Common.{get_or}
 use Rattle.std.proofs.Common.{refl, sym, ap, ◌∙◌, subst, arith}
 use Rattle.std.proofs.lemmas.List.{take_more, append-nil}
-use Rattle.asm.specs.declared.asm_lines_writing.LineWord.{LineWord}
+use Rattle.asm.specs.declared.line_text.LineWord.{LineWord}
 use Rattle.asm.specs.Forms.{Part}
 use Rattle.asm.specs.LineWords.{part, parts, IsWhole, AreWhole}
 use Rattle.asm.specs.Written.{Adds}

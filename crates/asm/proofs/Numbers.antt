@@ -3,7 +3,7 @@ use Rattle.std.proofs.Common.{◌≡◌, ℕ, ◌<◌, ◌≤◌, ◌^◌, List,
 use Rattle.std.proofs.Common.{refl, ap, arith, None}
 use Rattle.std.specs.Str.{all_ascii_digits}
 use Rattle.std.proofs.lemmas.Bool.{le-ltb, ne_eqb}
-use Rattle.asm.specs.AsmWordsNumbers.{is_numeral, natural_of, number_of, distance_of, held}
+use Rattle.asm.specs.WordNumbers.{is_numeral, natural_of, number_of, distance_of, held}
 use Rattle.asm.specs.declared.numeral.Numeral.TheVariants.{Huge}
 
 pub held_huge : (v : ℕ) → 2 ^ 64 ≤ v → held v ≡ Huge

@@ -9,7 +9,7 @@ use Rattle.std.proofs.lemmas.List.{get_or_default, take_rest}
 use denote.Ref.{Bor}
 use Rattle.asm.specs.declared.line.AssemblyLine.{AssemblyLine}
 use Rattle.asm.specs.Words.{Word}
-use Rattle.asm.specs.AsmLinesViews.{views}
+use Rattle.asm.specs.LineViews.{views}
 use Rattle.asm.specs.declared.error.AsmFault.TheVariants as faults
 use Rattle.asm.specs.declared.labels.Place.{Place}
 use Rattle.asm.specs.declared.error.AsmFault.{AsmFault}

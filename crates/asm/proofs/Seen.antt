@@ -5,7 +5,7 @@ use Rattle.std.specs.Prelude.{IfSome}
 use denote.Ref.{Bor}
 use Rattle.asm.specs.Words.{Word}
 use Rattle.asm.specs.declared.line.Item.{Item}
-use Rattle.asm.specs.AsmLinesViews.{views, SpellsItem}
+use Rattle.asm.specs.LineViews.{views, SpellsItem}
 use Rattle.asm.specs.Reading.{line_of}
 
 pub if_some : {A : Type 0} (P Q : A → Type 0) (r : Option A) → ((x : A) → P x → Q x) → IfSome r P

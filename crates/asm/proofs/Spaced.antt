@@ -15,7 +15,7 @@ use Rattle.std.proofs.lemmas.Bool.{ne_eqb, lt-ltb}
 use Rattle.std.proofs.lemmas.List.{append-nil}
 use Rattle.std.proofs.lemmas.List.Folds.{list_all-append}
 use Rattle.asm.specs.declared.numeral.Numeral.TheVariants as numerals
-use Rattle.asm.specs.AsmWordsNumbers.{number_of, natural_of, negative_of, is_numeral, held}
+use Rattle.asm.specs.WordNumbers.{number_of, natural_of, negative_of, is_numeral, held}
 use Rattle.asm.specs.Forms.{Part, Number, Distance, Name, Definition}
 use Rattle.asm.specs.Names.{is_letter, is_name_character, are_name_characters, is_name}
 use Rattle.asm.specs.Words.{Word, is_inner, is_word}

@@ -16,7 +16,7 @@ use Rattle.asm.specs.declared.line.AssemblyLine.{AssemblyLine}
 use Rattle.asm.specs.declared.line.AssemblyLine.TheVariants as lines
 use Rattle.asm.specs.Words.{Word}
 use Rattle.asm.specs.Text.{words_in, Reads, Readings}
-use Rattle.asm.specs.AsmLinesViews.{views, items}
+use Rattle.asm.specs.LineViews.{views, items}
 use Rattle.asm.specs.Written.{some_reading}
 use Rattle.asm.specs.Assembling.{take_lines, place_from, nothing, TextSpells}
 use Rattle.asm.specs.Listed.{ListedAll, sketch_of, without_label, no_name, some_line}

@@ -13,7 +13,7 @@ use Rattle.asm.specs.declared.line.AssemblyLine.{AssemblyLine}
 use Rattle.asm.specs.Forms.{Spells}
 use Rattle.asm.specs.Words.{Word}
 use Rattle.asm.specs.Text.{lines_in, words_in, Reads, Readings}
-use Rattle.asm.specs.AsmLinesViews.{views, items}
+use Rattle.asm.specs.LineViews.{views, items}
 use Rattle.asm.specs.declared.error.AsmFault.{AsmFault}
 use Rattle.asm.specs.declared.labels.Place.{Place}
 use Rattle.asm.specs.Assembling.{Sketch, Verdict, take_lines, taken_all, blame_line, line_step}

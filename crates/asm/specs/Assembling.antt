@@ -21,7 +21,7 @@ use Rattle.asm.specs.declared.line.Terms.{Terms}
 use Rattle.asm.specs.declared.line.RegisterContent.{RegisterContent}
 use Rattle.asm.specs.Words.{Word}
 use Rattle.asm.specs.Text.{lines_in, Readings}
-use Rattle.asm.specs.AsmLinesViews.{views, items}
+use Rattle.asm.specs.LineViews.{views, items}
 use denote.Ref.{Bor}
 use Rattle.asm.specs.declared.error.AsmFault.{AsmFault}
 use Rattle.asm.specs.declared.error.AsmFault.TheVariants as faults

@@ -9,12 +9,12 @@ pub mod Lawful
 pub mod Views
 pub mod Listing
 pub mod Listed
-pub mod AsmWordsNumbers
+pub mod WordNumbers
 pub mod Words
 pub mod Names
 pub mod Forms
 pub mod Reading
-pub mod AsmLinesViews
+pub mod LineViews
 pub mod Text
 pub mod Written
 pub mod LineWords

@@ -2,8 +2,8 @@
 use Rattle.std.specs.Prelude.{◌≡◌, List, [], ◌∷◌, map, true}
 use Rattle.asm.specs.Names.{is_name}
 use Rattle.asm.specs.Words.{is_word}
-use Rattle.asm.specs.declared.asm_lines_writing.LineWord.{LineWord}
-use Rattle.asm.specs.declared.asm_lines_writing.LineWord.TheVariants as words
+use Rattle.asm.specs.declared.line_text.LineWord.{LineWord}
+use Rattle.asm.specs.declared.line_text.LineWord.TheVariants as words
 use Rattle.asm.specs.Forms.{Part, Exactly, Number, Distance, Name}
 
 abbrev pub part : LineWord → Part

@@ -29,7 +29,7 @@ use Rattle.asm.specs.declared.line.Terms.TheVariants as terms
 use Rattle.asm.specs.declared.line.Range.{Range}
 use Rattle.asm.specs.declared.line.RegisterContent.{RegisterContent}
 use Rattle.asm.specs.declared.line.RegisterContent.TheVariants as contents
-use Rattle.asm.specs.AsmWordsNumbers.{numeral_of}
+use Rattle.asm.specs.WordNumbers.{numeral_of}
 use Rattle.asm.specs.Written.{line_text}
 
 -- ---- an instruction: a distance in place of a label

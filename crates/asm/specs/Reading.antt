@@ -17,7 +17,7 @@ use Rattle.asm.specs.declared.line.Terms.{Terms}
 use Rattle.asm.specs.declared.line.Terms.TheVariants as terms
 use Rattle.asm.specs.declared.line.Range.{Range}
 use Rattle.asm.specs.declared.line.RegisterContent.TheVariants as contents
-use Rattle.asm.specs.AsmWordsNumbers.{number_of, distance_of}
+use Rattle.asm.specs.WordNumbers.{number_of, distance_of}
 use Rattle.asm.specs.Words.{hook_of, operation_of, test_of, load_of, store_of, reorder_of}
 use Rattle.asm.specs.Words.{register_of, extension_of, if_wide, Word}
 use Rattle.asm.specs.Names.{is_name}

@@ -2,7 +2,7 @@
 ghost use Rattle.std.specs.Prelude.{◌≡◌, ◌≤◌, Some, None, length, IfOk, OnOk, if◌then◌else◌};
 ghost use Rattle.std.specs.Str.{bytes_eq};
 ghost use Rattle.asm.specs.Words.{Word};
-ghost use Rattle.asm.specs.AsmLinesViews.{views};
+ghost use Rattle.asm.specs.LineViews.{views};
 ghost use Rattle.asm.specs.Assembling.{gives_label, slots_in, place_from};
 ghost use Rattle.asm.specs.Labels.{place_in, ◌or_else◌};
 

@@ -1,19 +1,15 @@
 //! Assembly text: from a text to the object that it spells, and from an object to a text that
-//! spells it.
-//!
-//! The words of assembly text, read and written: numbers, the names of labels, and words from fixed
-//! tables (operators, hooks, sizes, registers).
-//!
-//! One line of assembly text: what it can say, and how it is spelled.
+//! spells it. A line is read and written word by word: numbers, names of labels, and words from
+//! fixed tables (operators, hooks, sizes, registers).
 #![tactic(auto)]
 
-mod asm_lines_writing;
 mod assembling;
 mod error;
 mod instructions;
 mod labels;
 pub mod laws;
 mod line;
+mod line_text;
 mod name;
 mod numbers;
 mod numeral;
@@ -22,10 +18,10 @@ mod statements;
 mod word;
 mod writing;
 
-pub use asm_lines_writing::write_line;
 pub use assembling::assemble;
 pub use error::{AsmError, AsmFault, ListError};
 pub use line::{AssemblyLine, LabelOrNumber, Operand, Range, RegisterContent, Term, Terms};
+pub use line_text::write_line;
 pub use name::is_name;
 pub use numeral::{Numeral, read_distance, read_number};
 pub use reading::{one_reading, read_lines};

@@ -219,7 +219,7 @@ pub(crate) struct Item<'a> {
 
 impl Item<'_> {
     ghost use Rattle.std.specs.Prelude.{◌≡◌};
-    ghost use Rattle.asm.specs.AsmLinesViews.{item_view};
+    ghost use Rattle.asm.specs.LineViews.{item_view};
     ghost use Rattle.asm.specs.Reading.{plain};
 
     /// A line that neither defines nor uses a label.

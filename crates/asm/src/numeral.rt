@@ -1,7 +1,7 @@
 //! The numbers of a text: decimal, with an optional sign.
 ghost use Rattle.std.specs.Prelude.{◌≡◌};
-ghost use Rattle.asm.specs.AsmWordsNumbers.{is_numeral, natural_of, negative_of, number_of};
-ghost use Rattle.asm.specs.AsmWordsNumbers.{distance_of};
+ghost use Rattle.asm.specs.WordNumbers.{is_numeral, natural_of, negative_of, number_of};
+ghost use Rattle.asm.specs.WordNumbers.{distance_of};
 
 /// A number as a text writes it.
 #[derive(Clone, Copy)]
@@ -78,7 +78,7 @@ pub fn read_distance(word: &str) -> Option<Numeral>
 }
 
 impl Numeral {
-    ghost use Rattle.asm.specs.AsmWordsNumbers.{numeral_of};
+    ghost use Rattle.asm.specs.WordNumbers.{numeral_of};
 
     /// The number as a text writes it.
     pub fn from_signed(number: i32) -> Numeral

@@ -5,8 +5,8 @@ ghost use Rattle.asm.specs.Forms.{Spells, Matches, Fits, Name, the_operand, IsOp
 ghost use Rattle.asm.specs.Forms.{the_target, the_slot, is_label, the_terms, AreTerms};
 ghost use Rattle.asm.specs.Forms.{the_range, the_term};
 ghost use Rattle.asm.specs.Words.{Word, register_word};
-ghost use Rattle.asm.specs.AsmLinesViews.{item_view, items, target_view, views, SpellsItem};
-ghost use Rattle.asm.specs.AsmLinesViews.{SpellsPlain};
+ghost use Rattle.asm.specs.LineViews.{item_view, items, target_view, views, SpellsItem};
+ghost use Rattle.asm.specs.LineViews.{SpellsPlain};
 ghost use Rattle.asm.specs.Reading.{register_at, operand_at, name_at, target_at, slot_at};
 ghost use Rattle.asm.specs.Reading.{label_at, one, two, unnamed};
 ghost use Rattle.asm.specs.Reading.{negation_or_reordering, assigned_line};

@@ -22,10 +22,10 @@ ghost use Rattle.asm.specs.Listing.{the_range, the_content, with_lines, longest_
 ghost use Rattle.asm.specs.Listing.{statement_lines, listing_lines, text_of};
 ghost use Rattle.asm.specs.declared.error.ListError.{ListError};
 
-use crate::asm_lines_writing::write_line;
 use crate::error::ListError;
 use crate::instructions::line_of;
 use crate::line::{AssemblyLine, LabelOrNumber, Range, RegisterContent, Term, Terms};
+use crate::line_text::write_line;
 use crate::numeral::Numeral;
 use isa::{Code, DecodeFault, Hook, Register, Slot, decode};
 use object::{Object, Rank, RankTerm, StackBytes, StatedKind, StatedNumber, Statement};

@@ -19,9 +19,9 @@ pub mod RootAlone
 pub mod Lists
 pub mod KeyNodes
 pub mod Leads
-pub mod AreaGraphWhole
+pub mod GraphWhole
 pub mod Order
-pub mod AreaGraphTold
+pub mod GraphTold
 pub mod Least
 pub mod Steps
 pub mod Parts

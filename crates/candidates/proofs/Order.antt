@@ -17,7 +17,7 @@ use Rattle.candidates.specs.declared.entry.AdvertisedLink.{AdvertisedLink}
 use Rattle.candidates.specs.declared.entry.EntryKind.{EntryKind}
 use Rattle.candidates.specs.declared.entry.EntryKind.TheVariants.{Attached, PointToPoint, Transit}
 use Rattle.candidates.proofs.KeyNodes.{lt_false, lt_true}
-use Rattle.candidates.proofs.AreaGraphWhole.{contained, placed}
+use Rattle.candidates.proofs.GraphWhole.{contained, placed}
 
 pub entries_total : IsTotalOrder entry_cmp
 entries_total =

@@ -26,8 +26,8 @@ use Rattle.candidates.specs.declared.entry.EntryKind.TheVariants.{PointToPoint, 
 use Rattle.candidates.proofs.KeyNodes.{network_said, router_said}
 use Rattle.candidates.proofs.Leads.{near_end}
 use Rattle.candidates.proofs.Least.{least_exists}
-use Rattle.candidates.proofs.AreaGraphTold.{back_point, back_transit, of_transit, point_back, transit_back}
-use Rattle.candidates.proofs.AreaGraphTold.{transit_of}
+use Rattle.candidates.proofs.GraphTold.{back_point, back_transit, of_transit, point_back, transit_back}
+use Rattle.candidates.proofs.GraphTold.{transit_of}
 
 no_dearer : (link : VertexLink) → IsNoDearer link link
 no_dearer link = record { same_end = refl; same_exit = refl; costs = omega arith }

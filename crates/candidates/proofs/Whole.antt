@@ -2,7 +2,7 @@
 -- database.
 use Rattle.std.proofs.Common.{ℕ, inl, inr, List, [], ◌∷◌, get_or, Option, None, Some, sym, subst}
 use Rattle.candidates.proofs.Leads.{far_end}
-use Rattle.candidates.proofs.AreaGraphWhole.{contained, placed}
+use Rattle.candidates.proofs.GraphWhole.{contained, placed}
 use Rattle.candidates.specs.Graphs.{StandsAt}
 use Rattle.candidates.specs.Nodes.{AreNodes, HasLsa}
 use Rattle.candidates.specs.Ways.{AreWays}

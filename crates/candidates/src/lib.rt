@@ -1,9 +1,7 @@
-//! The candidates for the routing table (RFC 2328, section 16): the least-cost walks over a
-//! database (section 16.1), what its LSAs offer within the area, between areas and to external
-//! destinations (sections 16.1 to 16.4), and the best of all offers for each prefix.
-//!
-//! The graph of an area: the routers and transit networks of its database, and the links between
-//! them that count (RFC 2328, section 16.1).
+//! The candidates for the routing table (RFC 2328, section 16): the graph of an area, the
+//! least-cost walks over it (section 16.1), what LSAs offer within the area, between areas and to
+//! external destinations (sections 16.1 to 16.4), and the best of all offers for each prefix. The
+//! graph has the routers and transit networks of a database, and the links between them that count.
 #![tactic(auto)]
 
 mod advertised;

@@ -1,6 +1,5 @@
-//! What the words of `routerd`'s command line ask for, carried out: files, threads and texts.
-//!
-//! The command line of `routerd`: the words that it takes, and the requests that they make.
+//! The command line of `routerd`: the words that it takes, the requests that they make, and how
+//! these are carried out with files, threads and texts.
 #![tactic(auto)]
 
 mod assembly;

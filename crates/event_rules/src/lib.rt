@@ -2,10 +2,8 @@
 //! router's configuration, of what it sends and of its refusals.
 //!
 //! The implementation is the crate `flood`, which also has the type of events; laws about runs and
-//! worked conversations are beside it.
-//!
-//! Runs of a router in which its clock doesn't go back, as laws, each carried by a function with an
-//! empty body.
+//! worked conversations are beside it. Laws on runs in which the clock doesn't go back stand here,
+//! each carried by a function with an empty body.
 #![tactic(auto)]
 
 pub mod laws;

@@ -5,9 +5,9 @@ ghost use Rattle.hooktool_trials.specs.Runs.{IsAsked, IsRefusal};
 
 use crate::asked::context_of;
 use crate::error::TrialError;
-use crate::object_trials_settings::set_up;
 use crate::requests::Question;
 use crate::runs::{RunEnding, run_in_a_row};
+use crate::setup::set_up;
 use isa::Hook;
 use machine::Input;
 use maps::{Seat, Shared};

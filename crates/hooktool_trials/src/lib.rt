@@ -1,8 +1,6 @@
-//! The command line of `hooktool`: the words that it takes, and what they ask for; and the lines of
-//! tests, whose questions are asked in the same words.
-//!
-//! Runs of an object's program on questions, in a row on the same counters and cells, and tests:
-//! questions with the answers that are expected.
+//! What `hooktool` is asked, and the runs that it makes: the words of its command line, the lines
+//! of tests, whose questions are asked in the same words, and runs of an object's program on
+//! questions, in a row on the same counters and cells.
 #![tactic(auto)]
 
 mod answers;
@@ -15,7 +13,6 @@ mod error;
 mod files;
 mod left;
 mod numbers;
-mod object_trials_settings;
 mod packets;
 mod places;
 mod playing;
@@ -24,6 +21,7 @@ mod requests;
 mod rows;
 mod runs;
 mod settings;
+mod setup;
 mod stage;
 mod steps;
 mod stopped;

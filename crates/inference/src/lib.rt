@@ -1,9 +1,6 @@
-//! Finds statements for code that has none, by passing over it until nothing changes. The result is
-//! a guess: an object counts only once the verifier accepts it.
-//!
-//! Finds ranks for statements that have none: for each loop a register that falls with each
-//! iteration, with the least sufficient weight and constants. The result is a guess, which the
-//! verifier judges.
+//! Finds statements for code that has none, by passing over it until nothing changes, and ranks for
+//! its loops: for each loop a register that falls with each iteration, with the least sufficient
+//! weight and constants. The result is a guess: an object counts only once the verifier accepts it.
 #![tactic(auto)]
 
 mod circles;

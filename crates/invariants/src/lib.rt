@@ -2,9 +2,9 @@
 //! invariants at every point of a run, and what is known and acknowledged.
 #![tactic(auto)]
 
-mod flood_laws;
+mod laws;
 
-pub use flood_laws::{
+pub use laws::{
     acknowledged_was_received, another_acknowledgment_takes_nothing_off,
     events_hold_only_what_is_known, events_keep_what_is_known, full_neighbors_request_nothing,
     instances_stay_in_range, lists_are_sound, only_router_and_external_lsas_are_wanted,

@@ -26,7 +26,7 @@ use Rattle.candidates.proofs.Outward.{external_back, external_forth}
 use Rattle.candidates.specs.declared.inner.InnerRoutes.{InnerRoutes}
 use Rattle.kept_routes.specs.Destinations.{HaveAllUnder, IsBestTo, IsTo, Knows, LiesUnder}
 use Rattle.kept_routes.specs.Destinations.{OffersTo, SaysTo}
-use Rattle.kept_routes.proofs.ExternalUpdatesStaying.{its_prefix}
+use Rattle.kept_routes.proofs.ExternalsStaying.{its_prefix}
 
 has_copy : (moment : ℕ) (copy : Option DatabaseCopy) (says : LsaBody)
     → contents_of moment copy ≡ Some says → is_some copy ≡ true

@@ -16,7 +16,7 @@ use Rattle.kept_routes.specs.Changes.{AreAllAdvertised, IsUntouched, OthersHaveS
 use Rattle.kept_routes.specs.Placing.{AreHalfway, HasAnother, HasAnotherTo, IsEither}
 use Rattle.kept_routes.specs.Placing.{IsRenewed}
 use Rattle.kept_routes.proofs.Networks.{among_or_not, same_or_not}
-use Rattle.kept_routes.proofs.ExternalUpdatesStaying.{untouched_kept}
+use Rattle.kept_routes.proofs.ExternalsStaying.{untouched_kept}
 
 -- a candidate for one of these destinations isn't among the old routes
 abbrev pub HasAnotherOf : Contents → Root → (done : List Network) → (before : List Route) → Type 0

@@ -8,7 +8,7 @@ pub mod Networks
 pub mod Told
 pub mod Placed
 pub mod Under
-pub mod ExternalUpdatesStaying
+pub mod ExternalsStaying
 pub mod Best
 pub mod Halfway
 pub mod Paged

@@ -7,4 +7,4 @@ pub mod Changes
 pub mod Destinations
 pub mod Placing
 pub mod Following
-pub mod ExternalUpdatesLaws
+pub mod ExternalLaws

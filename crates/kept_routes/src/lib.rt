@@ -1,13 +1,12 @@
-//! A walk that is kept while the LSAs of types 1 and 2 are unchanged, and whether they are after an
-//! event (RFC 2328, section 16).
-//!
-//! Candidates that follow AS-external-LSAs (RFC 2328, section 16.6): if an event changes no other
-//! LSA, only the destinations that the changed ones advertise or advertised are recalculated.
+//! What is kept of a routing table calculation from event to event (RFC 2328, section 16): a walk,
+//! while the LSAs of types 1 and 2 are unchanged; and all candidates but those whose destinations
+//! the changed AS-external-LSAs advertise or advertised, if an event changes no other LSA (section
+//! 16.6).
 #![tactic(auto)]
 
 mod changes;
 mod destination;
-pub mod external_updates_laws;
+pub mod external_laws;
 mod externals;
 mod follow;
 mod keys;

@@ -1,8 +1,6 @@
-//! Maps by LSA key whose edits since they were last committed can be undone without allocating, in
-//! time proportional to the number of edits.
-//!
-//! A list in pages that copies of it share: a copy takes no room for its items, and an edit only
-//! that of one page.
+//! Collections that an event edits and may roll back. The map by LSA key undoes its edits since the
+//! last commit without allocating, in time proportional to their number. The list in pages is
+//! shared by its copies: a copy takes no room for its items, and an edit only that of one page.
 #![tactic(auto)]
 
 mod entries_in_order;

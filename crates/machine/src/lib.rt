@@ -1,8 +1,6 @@
-//! The machine that the programs run on: what its states, inputs and faults are.
-//!
-//! The regions that loads and stores access, and the one that is recorded for each of a program's.
-//!
-//! The contexts of questions: the 64 bytes that a program is run on, hook by hook.
+//! The machine that programs run on: its states, inputs and faults, the regions of memory that
+//! loads and stores access, and the contexts of questions, which are the 64 bytes that a program is
+//! run on, hook by hook.
 //!
 //! Numbers are little-endian, and bytes outside of all fields are 0. A prefix's address and a
 //! Router ID are their 32-bit numbers.

@@ -6,8 +6,8 @@ ghost use Rattle.event_rules.specs.Commands.{same_external, same_kind, same_netw
 ghost use Rattle.event_rules.specs.Originations.{external_key};
 ghost use Rattle.router.specs.Making.{RouterDoes};
 
-use crate::router_state_origination::originate_if_wanted;
-use crate::router_state_router::Router;
+use crate::originate::originate_if_wanted;
+use crate::state::Router;
 use std::alloc::{AllocError, Global};
 use words::{External, ExternalType, Key, LS_INFINITY, Prefix, Second, external_key};
 

@@ -9,7 +9,7 @@ ghost use Rattle.event_rules.specs.Packets.{receive_request};
 ghost use Rattle.router.specs.Making.{RouterDoes};
 
 use crate::received_hellos::ReceivingHello;
-use crate::router_state_router::Router;
+use crate::state::Router;
 use area::{ReceivingAcknowledgment, ReceivingDescription, ReceivingRequest};
 use lsa::Header;
 use packet::{Description, Hello};

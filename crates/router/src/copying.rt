@@ -2,7 +2,7 @@
 ghost use Rattle.std.specs.Prelude.{◌≡◌, IfOk};
 ghost use Rattle.area.specs.Drafted.{nothing_at};
 
-use crate::router_state_router::Router;
+use crate::state::Router;
 use area::Revertible;
 use keyed_map::RouteAnswers;
 use std::alloc::{AllocError, Global};

@@ -9,7 +9,7 @@ ghost use Rattle.event_rules.specs.Originations.{external_key, forget_originatio
 ghost use Rattle.router.specs.Making.{RouterDoes};
 
 use crate::origination::interval_is_over;
-use crate::router_state_router::Router;
+use crate::state::Router;
 use keyed_map::{KeyTest, KeyedMap};
 use std::alloc::{AllocError, Global};
 use words::{External, Key, Second, external_key};

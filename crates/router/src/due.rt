@@ -3,8 +3,8 @@ ghost use Rattle.std.specs.Prelude.{◌≡◌, ◌++◌, [], ◌∷◌, IfOk, On
 ghost use Rattle.event_rules.specs.Originations.{due_keys, is_due, originate_due};
 ghost use Rattle.router.specs.Making.{RouterDoes};
 
-use crate::router_state_origination::originate_or_postpone;
-use crate::router_state_router::Router;
+use crate::originate::originate_or_postpone;
+use crate::state::Router;
 use std::alloc::{AllocError, Global};
 use words::{Key, Second, router_key};
 

@@ -7,8 +7,8 @@ ghost use Rattle.router.specs.EndingParts.{loading_done_then_originate};
 ghost use Rattle.router.specs.EndingParts.{loading_done_then_postpone};
 ghost use Rattle.router.specs.Making.{RouterDoes, interfaces_of};
 
-use crate::router_state_origination::originate_or_postpone;
-use crate::router_state_router::Router;
+use crate::originate::originate_or_postpone;
+use crate::state::Router;
 use crate::telling::{full_routers, has_changed, is_outdated};
 use std::alloc::{AllocError, Global};
 use words::{RouterId, Second, router_key};

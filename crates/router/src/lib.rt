@@ -1,25 +1,15 @@
-//! Self-originated LSAs (RFC 2328, section 12.4): their bodies, and their next instances.
+//! A router as one value, which an event changes and may roll back (RFC 2328, section 5): its links
+//! and database, what it announces, and its self-originated LSAs (section 12.4). Each part of an
+//! event is a call: what a received packet and a Tick do (sections 9.5, 10.3, 12.4, 13.5 and 13.6),
+//! external destinations that an operator redistributes and withdraws (section 12.4.4), the end
+//! that all events share (sections 10.3, 10.9, 12.4.1 and 14), and how the packets to be sent are
+//! packed (sections 13.3, 13.5 and appendix A.3).
 //!
-//! A router as one value, which an event changes and may roll back: its links and database, what it
-//! announces, which self-originated LSAs wait, and when they were last originated (RFC 2328,
-//! section 5).
-//!
-//! Each call that is a part of an event says by `Makes` which part it is: wherever in an event it
-//! comes, it does to the router, and adds to what was sent, what that part of the rules does. A
-//! call that may be refused an allocation says by `RouterDoes` that it is that part if it answers
-//! `Ok`. If it errors with `AllocError`, it may have done a part of its work; its caller then rolls
-//! the router back, which drops what was drafted, too.
-//!
-//! What RFC 2328 does beside received packets, each a part of an event of a router: a Tick
-//! (sections 9.5, 10.3, 12.4, 13.5 and 13.6), external destinations that an operator redistributes
-//! and withdraws (section 12.4.4), and the end that all events share (sections 10.3, 10.9, 12.4.1
-//! and 14).
-//!
-//! As in `router_state`, a call that errors with `AllocError` may have done a part of its work, and
-//! its caller then rolls the router back.
-//!
-//! Packs what is to be sent at an interface: ordered, with as many LSAs and headers in each packet
-//! as fit, in canonical encoding (RFC 2328, sections 13.3, 13.5 and appendix A.3).
+//! A call says by `Makes` which part of an event it is: wherever in an event it comes, it does to
+//! the router, and adds to what was sent, what that part of the rules does. A call that may be
+//! refused an allocation says by `RouterDoes` that it is that part if it answers `Ok`. If it errors
+//! with `AllocError`, it may have done a part of its work; its caller then rolls the router back,
+//! which drops what was drafted, too.
 #![tactic(auto)]
 
 mod aging;
@@ -36,16 +26,16 @@ mod external;
 mod instance;
 pub mod laws;
 mod order;
+mod originate;
 mod origination;
 mod own_lsas;
 mod packets;
 mod packing;
 mod received_hellos;
 mod router;
-mod router_state_origination;
-mod router_state_router;
 mod sent_hellos;
 mod sequence;
+mod state;
 pub mod telling;
 mod ticks;
 mod times;
@@ -57,11 +47,11 @@ pub use announcements::{redistribute, same_external, same_network, withdraw};
 pub use described::{copy_describes, links_differ};
 pub use ending::end_event;
 pub use external::external_instance;
+pub use originate::{originate_if_wanted, originate_or_postpone};
 pub use origination::{Origination, decide_external_lsa, decide_router_lsa, interval_is_over};
 pub use packets::receive_packet;
 pub use router::{full_routers, router_instance, subnet_mask};
-pub use router_state_origination::{originate_if_wanted, originate_or_postpone};
-pub use router_state_router::Router;
+pub use state::Router;
 pub use ticks::tick;
 pub use writing::push_packets;
 // Names from the crates below that crates above use.

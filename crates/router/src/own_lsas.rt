@@ -4,7 +4,7 @@ ghost use Rattle.event_rules.specs.Originations.{flush, is_due, refresh_time_is_
 ghost use Rattle.router.specs.Making.{RouterDoes};
 ghost use Rattle.router.specs.Parts.{install_and_flood_own};
 
-use crate::router_state_router::Router;
+use crate::state::Router;
 use area::DatabaseCopy;
 use lsa::Lsa;
 use std::alloc::{AllocError, Global};

@@ -10,7 +10,7 @@ ghost use Rattle.router.specs.Received.{is_accepted_before_exchange, is_from_nam
 ghost use Rattle.router.specs.Received.{is_exchange_or_later_named, is_processed};
 
 use crate::received_hellos::is_foreign;
-use crate::router_state_router::Router;
+use crate::state::Router;
 use crate::updates::receive_lsas;
 use area::NeighborState;
 use packet::{Packet, PacketBody};

@@ -5,7 +5,7 @@ ghost use Rattle.event_rules.specs.Endings.{is_at, is_current, links_differ};
 ghost use Rattle.router.specs.Full.{full_routers};
 ghost use Rattle.router.specs.Making.{interfaces_of};
 
-use crate::router_state_router::Router;
+use crate::state::Router;
 use std::alloc::{AllocError, Global};
 use words::{RouterId, Second, router_key};
 

@@ -5,7 +5,7 @@ ghost use Rattle.router.specs.Making.{RouterDoes};
 ghost use Rattle.router.specs.TickParts.{originate_what_is_due, expire_timers_and_forget};
 
 use crate::due::{due_keys, originate_due};
-use crate::router_state_router::Router;
+use crate::state::Router;
 use std::alloc::{AllocError, Global};
 use words::Second;
 

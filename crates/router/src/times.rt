@@ -10,8 +10,8 @@ ghost use Rattle.router.specs.Making.{Makes, RouterDoes};
 ghost use Rattle.router.specs.Parts.{request_and_remove_aged, send_what_is_due};
 
 use crate::aging::{flood_aged, remove_aged};
-use crate::router_state_router::Router;
 use crate::sent_hellos::SendingHello;
+use crate::state::Router;
 use area::{EndLoading, ExpireTimers, Link, LinkStep, Lsdb, NextRequest, SendingAgain};
 use std::alloc::{AllocError, Global};
 use words::Second;

@@ -7,8 +7,8 @@ ghost use Rattle.area.specs.Cases.{case_of, is_to_be_installed};
 ghost use Rattle.router.specs.Making.{RouterDoes};
 ghost use Rattle.router.specs.Received.{goes_on_at};
 
-use crate::router_state_origination::receive_self_originated;
-use crate::router_state_router::Router;
+use crate::originate::receive_self_originated;
+use crate::state::Router;
 use area::Case;
 use lsa::{Lsa, LsaError, read};
 use std::alloc::{AllocError, Global};

@@ -5,7 +5,7 @@ ghost use Rattle.event_rules.specs.Originations.{router_key, should_originate, w
 ghost use Rattle.router.specs.Wanted.{wanted_origination};
 
 use crate::origination::{Origination, decide_external_lsa, decide_router_lsa};
-use crate::router_state_router::Router;
+use crate::state::Router;
 use std::alloc::{AllocError, Global};
 use words::{Key, RouterId, Second, router_key};
 

@@ -16,4 +16,4 @@ pub mod Parts
 pub mod Comparisons
 pub mod Rows
 pub mod Loops
-pub mod ForwardingLoopsTables
+pub mod LoopTables

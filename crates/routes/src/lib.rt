@@ -1,15 +1,10 @@
-//! The routing table calculation: walks over the links that count, and the routes that they offer
-//! (RFC 2328, section 16).
+//! The routing table calculation (RFC 2328, section 16): walks over the links that count, the
+//! routes that they offer, and the table of the candidates that the program at `veto` let in.
 //!
-//! The routing table: the candidates that the program at `veto` let in, and whether it is to be
-//! asked again.
-//!
-//! Forwarding loops: to which routers a packet may come back, if each router forwards it to one of
-//! its next hops.
-//!
-//! A hop leads from one router to another. A packet that starts at a router may take any hop there,
-//! and again at the next one. A router is on a loop if and only if some such walk comes back to it.
-//! The hops may be those of all routers' routes to one prefix over the links between them.
+//! It also finds forwarding loops. A hop leads from one router to another. A packet that starts at
+//! a router may take any hop there, and again at the next one. A router is on a loop if and only if
+//! some such walk comes back to it. The hops may be those of all routers' routes to one prefix over
+//! the links between them.
 #![tactic(auto)]
 
 mod answered;

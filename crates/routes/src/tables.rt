@@ -2,7 +2,7 @@
 ghost use Rattle.std.specs.Prelude.{◌≡◌, ◌++◌, IfOk, OnOk, length};
 ghost use Rattle.std.specs.List.{All};
 ghost use Rattle.routes.specs.Loops.{IsAmong, IsCountOfLoops};
-ghost use Rattle.routes.specs.ForwardingLoopsTables.{hop_by, hops_over, leaves_by, next_hops};
+ghost use Rattle.routes.specs.LoopTables.{hop_by, hops_over, leaves_by, next_hops};
 
 use crate::counting::count_loops;
 use crate::hop::Hop;

@@ -2,9 +2,8 @@
 //! the other end of a link, or is lost, comes later or comes twice, as numbers made from a seed
 //! say. The same seed makes the same run on any machine.
 //!
-//! Histories of simulated networks: scenarios from a start over a change to rest, and lists of
-//! single acts after which Full neighbors' databases differ, made shorter until none can be left
-//! out.
+//! Histories are scenarios from a start over a change to rest, and lists of single acts after which
+//! Full neighbors' databases differ, made shorter until none can be left out.
 #![tactic(auto)]
 
 mod acts;

@@ -1,11 +1,7 @@
-//! The verifier: it accepts only programs that are safe within their bound.
-//!
-//! The rank at an edge, as a bound over the start of the segment, and whether it is below the
-//! segment's own.
-//!
-//! Segments of a program, and what is known after each instruction in one.
-//!
-//! Verdicts on object files: from the bytes of a file to the verifier's answer about its program.
+//! The verifier: it accepts only programs that are safe within their bound. It passes over the
+//! segments of a program, and knows after each instruction what registers and stack may hold. At a
+//! jump back, the rank has to be below the segment's own. A verdict on an object file goes from its
+//! bytes to the verifier's answer about its program.
 #![tactic(auto)]
 
 mod accepted;

@@ -1,9 +1,6 @@
 //! Workers that take turns at one router ([`turn`]): what they start with, the loop of one over its
-//! transport and its clock, and what they bring back; and those of the machine, UDP sockets and the
-//! system's seconds.
-//!
-//! The sockets over which a worker receives and sends, and its clock: traits that sockets and the
-//! system clock implement, and scripted versions for tests.
+//! transport and its clock, and what they bring back. Transports and clocks are traits; UDP sockets
+//! and the system's seconds implement them, and scripted versions for tests.
 #![tactic(auto)]
 
 mod flag;

@@ -1,7 +1,7 @@
 use Rattle.std.proofs.Common.{◌≡◌, ◌∷◌, [], ◌++◌, ℕ, List, sym, subst}
 use Rattle.std.specs.List.{Contains}
 use Rattle.std.proofs.lemmas.List.Elements.{Contains-push}
-use Rattle.candidates.proofs.AreaGraphWhole.{one_place}
+use Rattle.candidates.proofs.GraphWhole.{one_place}
 use Rattle.area_routes.proofs.graph_changes.note_node.Goals as goal
 
 pub returns-in_ok-push-clause-noted : goal.returns-in_ok-push-clause-noted

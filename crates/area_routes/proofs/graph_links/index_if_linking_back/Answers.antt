@@ -1,7 +1,7 @@
 use Rattle.std.proofs.Common.{◌≡◌, None, Some, ℕ, slice_get, sym, ◌∙◌, ap}
 use Rattle.std.specs.Prelude.{IfNone, IfSome}
 use Rattle.std.specs.Option.{option_copied}
-use Rattle.candidates.proofs.AreaGraphWhole.{placed}
+use Rattle.candidates.proofs.GraphWhole.{placed}
 use Rattle.candidates.specs.Nodes.{router_lsa}
 use Rattle.routes.specs.Links.{LinksBack}
 use Rattle.routes.specs.Contents.{contents_at}

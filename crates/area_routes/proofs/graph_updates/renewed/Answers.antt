@@ -1,6 +1,6 @@
 use Rattle.std.proofs.Common.{◌≡◌, true, ℕ, List, take, get_or, sym, subst, arith}
 use Rattle.std.proofs.lemmas.List.{take_all, take_more}
-use Rattle.candidates.proofs.AreaGraphWhole.{is_graph}
+use Rattle.candidates.proofs.GraphWhole.{is_graph}
 use Rattle.candidates.specs.Graphs.{AreVertices}
 use Rattle.area_routes.specs.Vertices.{IsRenewed}
 use Rattle.area_routes.proofs.Stay.{AreEither, all_renewed, one_renewed}

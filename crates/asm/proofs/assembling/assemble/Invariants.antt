@@ -1,5 +1,5 @@
 use Rattle.std.proofs.Common.{◌≡◌, drop}
-use Rattle.asm.specs.AsmLinesViews.{views}
+use Rattle.asm.specs.LineViews.{views}
 use Rattle.asm.specs.Assembling.{taken_all, take_lines, place_from}
 use Rattle.asm.specs.Lawful.{IsLawful}
 use Rattle.asm.specs.Views.{sketch}

@@ -1,6 +1,6 @@
 use Rattle.std.proofs.Common.{◌≡◌, ◌≤◌, ◌*◌, drop}
 use Rattle.asm.specs.Words.{Word}
-use Rattle.asm.specs.AsmLinesViews.{views}
+use Rattle.asm.specs.LineViews.{views}
 use Rattle.asm.specs.Assembling.{place_from}
 use Rattle.asm.specs.Labels.{place_in, ◌or_else◌}
 use Rattle.asm.proofs.labels.places_of.Given as goal

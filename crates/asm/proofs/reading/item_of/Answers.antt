@@ -1,5 +1,5 @@
 use Rattle.std.proofs.Common.{ap, ◌∙◌}
-use Rattle.asm.specs.AsmLinesViews.{views}
+use Rattle.asm.specs.LineViews.{views}
 use Rattle.asm.proofs.Items.{reads_found}
 use Rattle.asm.proofs.reading.item_of.Goals as goal
 

@@ -2,7 +2,7 @@ use Rattle.std.proofs.Common.{subst, Option}
 use Rattle.std.specs.Prelude.{option_map}
 use Rattle.asm.specs.declared.line.Item.{Item}
 use Rattle.asm.specs.Text.{words_in, Reads}
-use Rattle.asm.specs.AsmLinesViews.{item_view}
+use Rattle.asm.specs.LineViews.{item_view}
 use Rattle.asm.proofs.Items.{adds}
 use Rattle.asm.proofs.reading.read_line.Goals as goal
 

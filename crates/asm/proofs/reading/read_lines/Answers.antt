@@ -2,7 +2,7 @@ use Rattle.std.proofs.Common.{subst, List, ℕ, lit<, sym}
 use Rattle.std.proofs.lemmas.Iterator.Consumers.{YieldsList-end}
 use Rattle.std.proofs.lemmas.Iterator.Splits.{YieldsList-from_str_split}
 use Rattle.asm.specs.Words.{Word}
-use Rattle.asm.specs.AsmLinesViews.{items, views}
+use Rattle.asm.specs.LineViews.{items, views}
 use Rattle.asm.specs.Text.{Readings}
 use Rattle.asm.proofs.Items.{adds_readings, views_more}
 use Rattle.asm.proofs.reading.read_lines.Goals as goal

@@ -1,5 +1,5 @@
 use Rattle.std.proofs.Common.{◌≡◌, length}
-use Rattle.asm.specs.AsmLinesViews.{views, items}
+use Rattle.asm.specs.LineViews.{views, items}
 use Rattle.asm.specs.Text.{Readings}
 use Rattle.asm.proofs.reading.read_lines.Given as goal
 

@@ -1,6 +1,6 @@
 use Rattle.std.proofs.Common.{◌≡◌}
 use Rattle.std.specs.Prelude.{filter}
-use Rattle.asm.specs.AsmLinesViews.{views}
+use Rattle.asm.specs.LineViews.{views}
 use Rattle.asm.specs.Text.{has_bytes}
 use Rattle.asm.proofs.reading.words_of.Given as goal
 

@@ -2,7 +2,7 @@ use Rattle.std.proofs.Common.{◌≡◌, Some, length, slice_get, arith, refl, s
 use Rattle.std.proofs.lemmas.Option.{slice_get_read}
 use Rattle.lsa.specs.declared.body.LsaBody.{LsaBody}
 use Rattle.routes.specs.Contents.{contents_at}
-use Rattle.candidates.proofs.AreaGraphWhole.{contained}
+use Rattle.candidates.proofs.GraphWhole.{contained}
 use Rattle.candidates.proofs.advertised.body_near.Goals as goal
 
 pub returns-then-is_same_key : goal.returns-then-is_same_key

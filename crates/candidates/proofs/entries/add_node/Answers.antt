@@ -8,7 +8,7 @@ use Rattle.candidates.specs.Graphs.{Adds, OfEach}
 use Rattle.candidates.specs.Nodes.{network_lsa, router_lsa}
 use Rattle.candidates.specs.declared.entry.AdvertisedLink.{AdvertisedLink}
 use Rattle.candidates.proofs.Steps.{on_ok}
-use Rattle.candidates.proofs.AreaGraphTold.{network_tells, router_tells}
+use Rattle.candidates.proofs.GraphTold.{network_tells, router_tells}
 use Rattle.candidates.proofs.entries.add_node.Goals as goal
 
 pub returns-in-Some : goal.returns-in-Some

@@ -3,7 +3,7 @@ use Rattle.std.proofs.lemmas.Option.{slice_get_read}
 use Rattle.routes.specs.Contents.{contents_at}
 use Rattle.candidates.specs.Graphs.{Adds, StandsAt}
 use Rattle.candidates.specs.declared.entry.AdvertisedLink.{AdvertisedLink}
-use Rattle.candidates.proofs.AreaGraphTold.{FromBelow, are_entries, below_more, below_none}
+use Rattle.candidates.proofs.GraphTold.{FromBelow, are_entries, below_more, below_none}
 use Rattle.candidates.proofs.entries.entries_of.Goals as goal
 
 pub loop-at-init : goal.loop-at-init

@@ -7,7 +7,7 @@ use Rattle.candidates.specs.Graphs.{Adds, AreLinksFrom, OfEach}
 use Rattle.candidates.specs.Links.{IsToListed, IsToRouter}
 use Rattle.candidates.specs.Nodes.{network_lsa, router_lsa}
 use Rattle.candidates.proofs.Parts.{network_links, no_network, no_router, router_links}
-use Rattle.candidates.proofs.AreaGraphTold.{ordered}
+use Rattle.candidates.proofs.GraphTold.{ordered}
 use Rattle.candidates.proofs.links.links_from.Goals as goal
 use Rattle.candidates.proofs.links.links_from.Goals.{in-ARouter+in-Some+in_ok-add_routers-in-ARouter+in_ok-add_networks-in-ARouter}
 use Rattle.candidates.proofs.links.links_from.Goals.{in-ARouter+in_default}

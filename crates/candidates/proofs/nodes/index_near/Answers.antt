@@ -3,7 +3,7 @@ use Rattle.std.proofs.lemmas.Option.{slice_get_read}
 use Rattle.routes.specs.declared.node.Node.{Node}
 use Rattle.candidates.specs.Graphs.{StandsAt}
 use Rattle.candidates.proofs.KeyNodes.{go_down, in_places}
-use Rattle.candidates.proofs.AreaGraphWhole.{never_before}
+use Rattle.candidates.proofs.GraphWhole.{never_before}
 use Rattle.candidates.proofs.nodes.index_near.Goals as goal
 
 pub returns-then-is_same-clause-before : goal.returns-then-is_same-clause-before

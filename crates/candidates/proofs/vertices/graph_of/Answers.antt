@@ -5,7 +5,7 @@ use Rattle.words.specs.declared.key.Key.{Key}
 use Rattle.routes.specs.Contents.{contents_at}
 use Rattle.candidates.specs.Entries.{AreEntries}
 use Rattle.candidates.specs.declared.entry.AdvertisedLink.{AdvertisedLink}
-use Rattle.candidates.proofs.AreaGraphWhole.{is_graph, is_graph_of}
+use Rattle.candidates.proofs.GraphWhole.{is_graph, is_graph_of}
 use Rattle.candidates.proofs.vertices.graph_of.Goals as goal
 
 pub entries_of-requires-clause-bodies : goal.entries_of-requires-clause-bodies

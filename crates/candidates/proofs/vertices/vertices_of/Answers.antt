@@ -3,7 +3,7 @@ use Rattle.std.proofs.lemmas.List.{length-append}
 use Rattle.std.proofs.lemmas.Option.{slice_get_read}
 use Rattle.routes.specs.Contents.{contents_at}
 use Rattle.candidates.specs.Graphs.{StandsAt}
-use Rattle.candidates.proofs.AreaGraphWhole.{one_more}
+use Rattle.candidates.proofs.GraphWhole.{one_more}
 use Rattle.candidates.proofs.vertices.vertices_of.Goals as goal
 
 pub loop-at-preserved : goal.loop-at-preserved

@@ -1,7 +1,7 @@
 use Rattle.std.proofs.Common.{◌≡◌, length, take}
 use Rattle.std.specs.List.{All}
 use Rattle.routes.specs.Loops.{IsAmong}
-use Rattle.routes.specs.ForwardingLoopsTables.{next_hops}
+use Rattle.routes.specs.LoopTables.{next_hops}
 use Rattle.routes.proofs.tables.hops_of.Given as goal
 
 abbrev pub invariant-loop-link : goal.invariant-loop-link

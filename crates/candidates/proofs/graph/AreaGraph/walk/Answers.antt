@@ -1,5 +1,5 @@
 use Rattle.std.proofs.Common.{◌≡◌, ◌<◌, ℕ, List, None, get_or, slice_get, Some, sym, subst, ◌∙◌}
-use Rattle.candidates.proofs.AreaGraphWhole.{is_graph_of, placed}
+use Rattle.candidates.proofs.GraphWhole.{is_graph_of, placed}
 use Rattle.candidates.specs.Nodes.{HasLsa}
 use Rattle.candidates.specs.Ways.{DistancesFit, AreWays}
 use Rattle.routes.specs.Graphs.{Graph, IsAnswer}

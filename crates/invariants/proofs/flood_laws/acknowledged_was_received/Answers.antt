@@ -1,5 +1,0 @@
-use Rattle.invariants.proofs.Worlds.{acknowledged_was_received}
-use Rattle.invariants.proofs.flood_laws.acknowledged_was_received.Goals as goal
-
-pub returns : goal.returns
-returns c = acknowledged_was_received

@@ -1,5 +1,0 @@
-use Rattle.invariants.proofs.Keeping.{events_keep_what_is_known as of_events}
-use Rattle.invariants.proofs.flood_laws.events_keep_what_is_known.Goals as goal
-
-pub returns : goal.returns
-returns c = of_events

@@ -1,5 +1,0 @@
-use Rattle.invariants.proofs.Lawful.{texts_are_lawful as all_are_lawful}
-use Rattle.invariants.proofs.flood_laws.texts_are_lawful.Goals as goal
-
-pub returns : goal.returns
-returns c = all_are_lawful
