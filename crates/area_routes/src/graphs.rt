@@ -1,6 +1,7 @@
 //! The graph of the area from one event to the next (RFC 2328, section 16.1).
 ghost use Rattle.std.specs.Prelude.{◌≡◌, ◌≤◌, length, IfOk, IfSome};
 ghost use Rattle.std.specs.FinMap as finite;
+ghost use Rattle.words.specs.Constants.{max_lsas};
 ghost use Rattle.area_routes.specs.Kept.{IsGraphFrom};
 ghost use Rattle.area_routes.specs.Offers.{root_by};
 ghost use Rattle.candidates.specs.Ways.{DistancesFit, AreWays};
@@ -28,7 +29,7 @@ pub fn graph_at(
     moment: Second,
 ) -> Result<Option<AreaGraph>, AllocError>
     requires interfaces { length root.now.addresses ≤ 63 }
-    requires size { finite.len area.now.present.database ≤ 16384 }
+    requires size { finite.len area.now.present.database ≤ max_lsas }
     ensures { IfOk result (λ made. IfSome made
         (IsGraphFrom (contents_at moment area.now.present.database) root.now)) }
 {
@@ -52,7 +53,7 @@ pub fn walk_by(
     kept: &Option<AreaGraph>,
 ) -> Result<Reached, AllocError>
     requires interfaces { length root.now.addresses ≤ 63 }
-    requires size { finite.len area.now.present.database ≤ 16384 }
+    requires size { finite.len area.now.present.database ≤ max_lsas }
     requires graph { IfSome kept.now
         (IsGraphFrom (contents_at moment area.now.present.database) root.now) }
     ensures ways { IfOk result (λ reached. AreWays (contents_at moment area.now.present.database)

@@ -2,6 +2,7 @@
 ghost use Rattle.std.specs.Prelude.{◌≡◌, ◌+◌, ◌≤◌, ◌↔◌, ◌&&◌, None, Ok, Some, false, length, min};
 ghost use Rattle.std.specs.Prelude.{IfOk, IfSome, IsSome, IsTrue, OnErr, OnOk, true};
 ghost use Rattle.std.specs.FinMap as finite;
+ghost use Rattle.words.specs.Constants.{max_lsas};
 ghost use Rattle.area_routes.specs.Kept.{AreKept, AreRoutesOf, AreCandidateInputsUnchanged};
 ghost use Rattle.area_routes.specs.Kept.{AreWalkAndCandidatesOf, BringsAnother, BringsNoneNew};
 ghost use Rattle.area_routes.specs.Kept.{ExternalsHaveSameContents, KnowsExternals, KnowsGraph};
@@ -110,7 +111,7 @@ impl AreaRoutes {
         moment: Second,
     ) -> Result<AreaRoutes, AllocError>
         requires few { length area.now.present.links ≤ 63 }
-        requires size { finite.len area.now.present.database ≤ 16384 }
+        requires size { finite.len area.now.present.database ≤ max_lsas }
         ensures routes { IfOk result (λ made. AreRoutesOf router area.now.present moment made) }
         ensures walks { IfOk result (λ made. made.walk.walks ≡ 1) }
         ensures behind { IfOk result (λ made. made.behind ≡ false) }
@@ -436,7 +437,7 @@ impl AreaRoutes {
         moment: Second,
     ) -> Result<(), AllocError>
         requires interfaces { length root.now.addresses ≤ 63 }
-        requires size { finite.len area.now.present.database ≤ 16384 }
+        requires size { finite.len area.now.present.database ≤ max_lsas }
         requires graph { KnowsGraph (contents_at moment area.now.present.database) root.now
             self.old }
         ensures graph { KnowsGraph (contents_at moment area.now.present.database) root.now
@@ -459,7 +460,7 @@ impl AreaRoutes {
         moment: Second,
     ) -> Result<(), AllocError>
         requires interfaces { length root.addresses ≤ 63 }
-        requires size { finite.len area.now.present.database ≤ 16384 }
+        requires size { finite.len area.now.present.database ≤ max_lsas }
         requires graph { KnowsGraph (contents_at moment area.now.present.database) root self.old }
         ensures graph { KnowsGraph (contents_at moment area.now.present.database) root self.new }
         ensures walk { OnOk result (IsWalkOf (contents_at moment area.now.present.database)
@@ -488,7 +489,7 @@ impl AreaRoutes {
         moment: Second,
     ) -> Result<(), AllocError>
         requires few { length area.now.present.links ≤ 63 }
-        requires size { finite.len area.now.present.database ≤ 16384 }
+        requires size { finite.len area.now.present.database ≤ max_lsas }
         requires walk { KnowsWalk (contents_at moment area.now.present.database)
             (root_by router area.now.present.links) self.old }
         requires inner { KnowsInner (contents_at moment area.now.present.database)
@@ -562,7 +563,7 @@ impl AreaRoutes {
         moment: Second,
     ) -> Result<Pages<Route>, AllocError>
         requires few { length area.now.present.links ≤ 63 }
-        requires size { finite.len area.now.present.database ≤ 16384 }
+        requires size { finite.len area.now.present.database ≤ max_lsas }
         requires routes { AreRoutesOf router area.now.present moment self.now }
         ensures { IfOk result (λ candidates.
             AreCandidatesOf router area.now.present moment candidates) }
@@ -598,7 +599,7 @@ impl AreaRoutes {
         answers: &RouteAnswers,
     ) -> Result<Vec<Route>, AllocError>
         requires few { length area.now.present.links ≤ 63 }
-        requires size { finite.len area.now.present.database ≤ 16384 }
+        requires size { finite.len area.now.present.database ≤ max_lsas }
         requires routes { AreRoutesOf router area.now.present moment self.now }
         ensures { IfOk result (λ table.
             IsTableOf router area.now.present moment answers.now table.items) }
@@ -621,7 +622,7 @@ impl AreaRoutes {
         answers: &RouteAnswers,
     ) -> Result<Offered, AllocError>
         requires few { length area.now.present.links ≤ 63 }
-        requires size { finite.len area.now.present.database ≤ 16384 }
+        requires size { finite.len area.now.present.database ≤ max_lsas }
         requires routes { AreRoutesOf router area.now.present moment self.now }
         ensures { IfOk result (λ offered. AreOffered router area.now.present moment answers.now
             offered.candidates.items offered.rows.items) }
@@ -700,7 +701,7 @@ impl AreaRoutes {
         answers: &RouteAnswers,
     ) -> Result<bool, AllocError>
         requires few { length area.now.present.links ≤ 63 }
-        requires size { finite.len area.now.present.database ≤ 16384 }
+        requires size { finite.len area.now.present.database ≤ max_lsas }
         requires kept { AreKept router area.now.present moment answers.now self.old }
         ensures stale { IfOk result (λ stale. IsTrue stale
             ↔ IsStaleOf router area.now.present moment answers.now) }

@@ -2,6 +2,7 @@
 ghost use Rattle.std.specs.Prelude.{◌≡◌, ◌≤◌, IfOk, length};
 ghost use Rattle.std.specs.FinMap as finite;
 ghost use Rattle.std.specs.List.{Contains};
+ghost use Rattle.words.specs.Constants.{max_lsas};
 ghost use Rattle.candidates.specs.Inner.{AreInner, AreSearchable};
 ghost use Rattle.words.specs.declared.route.Route.{Route as RouteValue};
 ghost use Rattle.routes.specs.Candidates.{AreCandidates, Offers};
@@ -36,7 +37,7 @@ pub fn candidates(
     moment: Second,
 ) -> Result<Vec<Route>, AllocError>
     requires interfaces { length root.now.addresses ≤ 63 }
-    requires size { finite.len db.now.present ≤ 16384 }
+    requires size { finite.len db.now.present ≤ max_lsas }
     ensures candidates { IfOk result (λ routes.
         AreCandidates (contents_at moment db.now.present) root.now routes.items) }
     ensures every { IfOk result (λ routes. (o : Offer)

@@ -1,6 +1,7 @@
 //! The graph of an area, and the walk over it.
 ghost use Rattle.std.specs.Prelude.{◌≡◌, ◌≤◌, length, IfOk};
 ghost use Rattle.std.specs.FinMap as finite;
+ghost use Rattle.words.specs.Constants.{max_lsas};
 ghost use Rattle.routes.specs.Contents.{Contents, contents_at};
 ghost use Rattle.candidates.specs.Ways.{DistancesFit, AreWays};
 ghost use Rattle.candidates.specs.AreaGraphs.{IsAreaGraph, IsWalkable};
@@ -57,7 +58,7 @@ impl AreaGraph {
         moment: Second,
     ) -> Result<AreaGraph, AllocError>
         requires interfaces { length root.now.addresses ≤ 63 }
-        requires size { finite.len db.now.present ≤ 16384 }
+        requires size { finite.len db.now.present ≤ max_lsas }
         ensures graph { IfOk result (λ graph. IsAreaGraph (contents_at moment db.now.present)
             graph) }
         ensures root { IfOk result (λ graph. graph.root ≡ root.now) }

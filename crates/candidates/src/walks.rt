@@ -1,6 +1,7 @@
 //! The calculation of shortest paths (RFC 2328, section 16.1).
 ghost use Rattle.std.specs.Prelude.{◌≤◌, length, IfOk};
 ghost use Rattle.std.specs.FinMap as finite;
+ghost use Rattle.words.specs.Constants.{max_lsas};
 ghost use Rattle.routes.specs.Contents.{contents_at};
 ghost use Rattle.candidates.specs.Ways.{DistancesFit, AreWays};
 ghost use Rattle.candidates.specs.Reached.{way_in};
@@ -26,7 +27,7 @@ use words::Second;
 /// `AllocError` if an allocation is refused.
 pub fn walk(alloc: Global, db: &Lsdb, root: &Root, moment: Second) -> Result<Reached, AllocError>
     requires interfaces { length root.now.addresses ≤ 63 }
-    requires size { finite.len db.now.present ≤ 16384 }
+    requires size { finite.len db.now.present ≤ max_lsas }
     ensures ways { IfOk result (λ reached. AreWays (contents_at moment db.now.present) root.now
         (way_in reached)) }
     ensures near { IfOk result (λ reached. DistancesFit (way_in reached)) }
@@ -42,7 +43,7 @@ pub fn walk(alloc: Global, db: &Lsdb, root: &Root, moment: Second) -> Result<Rea
 // The ways to all nodes, by building the whole graph and searching it.
 fn walk_on(alloc: Global, db: &Lsdb, root: &Root, moment: Second) -> Result<Reached, AllocError>
     requires interfaces { length root.now.addresses ≤ 63 }
-    requires size { finite.len db.now.present ≤ 16384 }
+    requires size { finite.len db.now.present ≤ max_lsas }
     ensures ways { IfOk result (λ reached. AreWays (contents_at moment db.now.present) root.now
         (way_in reached)) }
     ensures near { IfOk result (λ reached. DistancesFit (way_in reached)) }

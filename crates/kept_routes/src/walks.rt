@@ -2,6 +2,7 @@
 ghost use Rattle.std.specs.Prelude.{◌≡◌, ◌+◌, ◌≤◌, min, length, IfOk};
 ghost use Rattle.std.specs.FinMap as finite;
 ghost use Rattle.std.specs.List.{Contains};
+ghost use Rattle.words.specs.Constants.{max_lsas};
 ghost use Rattle.words.specs.declared.route.Route.{Route as RouteValue};
 ghost use Rattle.routes.specs.Candidates.{AreCandidates, Offers};
 ghost use Rattle.routes.specs.Contents.{contents_at};
@@ -47,7 +48,7 @@ impl Routes {
     /// `AllocError` if an allocation is refused.
     pub fn new(alloc: Global, db: &Lsdb, root: &Root, moment: Second) -> Result<Routes, AllocError>
         requires interfaces { length root.now.addresses ≤ 63 }
-        requires size { finite.len db.now.present ≤ 16384 }
+        requires size { finite.len db.now.present ≤ max_lsas }
         ensures walk { IfOk result (λ kept. IsWalkOf (contents_at moment db.now.present) kept) }
         ensures root { IfOk result (λ kept. kept.root ≡ root.now) }
         ensures walks { IfOk result (λ kept. kept.walks ≡ 1) }

@@ -2,6 +2,7 @@
 //! database's is a clause of `update_graph`, which doesn't say when it can be.
 ghost use Rattle.std.specs.Prelude.{◌≤◌, length};
 ghost use Rattle.std.specs.FinMap as finite;
+ghost use Rattle.words.specs.Constants.{max_lsas};
 
 use area_routes::update_graph;
 use candidates::AreaGraph;
@@ -134,7 +135,7 @@ fn install(alloc: Global, db: &mut Lsdb, texts: &[&[u8]]) -> Result<(), Fail> {
 // Whether the graph of the database is updated for this LSA, which is received a second later.
 fn is_followed(alloc: Global, db: &mut Lsdb, root: &Root, lsa: Lsa) -> Result<bool, Fail>
     requires interfaces { length root.now.addresses ≤ 63 }
-    requires size { finite.len db.old.present ≤ 16384 }
+    requires size { finite.len db.old.present ≤ max_lsas }
 {
     let (before, now) = (Second::new(1000), Second::new(1001));
     db.commit();

@@ -1,5 +1,6 @@
 use Rattle.std.proofs.Common.{◌≤◌, length, refl, ap, subst, sym}
 use Rattle.std.specs.FinMap as finite
+use Rattle.words.specs.Constants.{max_lsas}
 use Rattle.area_routes.proofs.Limits.{within}
 use Rattle.area_routes.specs.Kept.{AreRoutesOf}
 use Rattle.area_routes.specs.Offers.{AreCandidatesOf}
@@ -16,7 +17,7 @@ candidates-requires-clause-few c =
 
 pub candidates-requires-clause-size : goal.candidates-requires-clause-size
 candidates-requires-clause-size c =
-    subst (λ (a : RouterArea). finite.len a.present.database ≤ 16384) (sym c.area.ensures.parts)
+    subst (λ (a : RouterArea). finite.len a.present.database ≤ max_lsas) (sym c.area.ensures.parts)
     (within c.self.inside.router.present.id c.self.inside.router.present.area.database
     c.self.invariant.2)
 

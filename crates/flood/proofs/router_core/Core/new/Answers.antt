@@ -1,5 +1,6 @@
 use Rattle.std.proofs.Common.{◌≡◌, ◌≤◌, true, length, rules, sym, ap, ◌∙◌, subst}
 use Rattle.std.specs.FinMap as finite
+use Rattle.words.specs.Constants.{max_lsas}
 use Rattle.area_routes.proofs.Limits.{within}
 use Rattle.event_rules.specs.RoomLaws.{IsRoomy}
 use Rattle.event_rules.proofs.Roomy.{every_packet_has_room}
@@ -44,5 +45,5 @@ pub new-requires-clause-size : goal.new-requires-clause-size
 new-requires-clause-size c =
     let is = ap (λ k. k.present) c.commit.ensures ∙ c.in_ok-router.ensures in
     let fine = ap exceeds is ∙ others_stay_within_limits.start c.args.config.now in
-    subst (λ (a : RouterArea). finite.len a.present.database ≤ 16384) (sym c.area.ensures.parts)
+    subst (λ (a : RouterArea). finite.len a.present.database ≤ max_lsas) (sym c.area.ensures.parts)
     (within c.commit.new.self.present.id c.commit.new.self.present.area.database fine)

@@ -1,5 +1,6 @@
 use Rattle.std.proofs.Common.{◌≤◌, length, refl, ap, subst, sym}
 use Rattle.std.specs.FinMap as finite
+use Rattle.words.specs.Constants.{max_lsas}
 use Rattle.area_routes.proofs.Limits.{within}
 use Rattle.area_routes.specs.Kept.{AreRoutesOf}
 use Rattle.area_routes.specs.Offers.{AreOffered}
@@ -15,7 +16,7 @@ offered-requires-clause-few c = subst (λ (a : RouterArea). length a.present.lin
 
 pub offered-requires-clause-size : goal.offered-requires-clause-size
 offered-requires-clause-size c =
-    subst (λ (a : RouterArea). finite.len a.present.database ≤ 16384) (sym c.area.ensures.parts)
+    subst (λ (a : RouterArea). finite.len a.present.database ≤ max_lsas) (sym c.area.ensures.parts)
     (within c.self.inside.router.present.id c.self.inside.router.present.area.database
     c.self.invariant.2)
 

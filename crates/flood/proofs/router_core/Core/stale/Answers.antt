@@ -1,6 +1,7 @@
 use Rattle.std.proofs.Common.{◌≤◌, length, ap, subst, sym}
 use Rattle.std.specs.FinMap as finite
 use Rattle.std.specs.Prelude.{◌↔◌, IsTrue}
+use Rattle.words.specs.Constants.{max_lsas}
 use Rattle.area_routes.proofs.Limits.{within}
 use Rattle.area_routes.specs.Kept.{AreKept}
 use Rattle.area_routes.specs.Offers.{IsStaleOf}
@@ -16,7 +17,7 @@ is_stale-requires-clause-few c = subst (λ (a : RouterArea). length a.present.li
 
 pub is_stale-requires-clause-size : goal.is_stale-requires-clause-size
 is_stale-requires-clause-size c =
-    subst (λ (a : RouterArea). finite.len a.present.database ≤ 16384) (sym c.area.ensures.parts)
+    subst (λ (a : RouterArea). finite.len a.present.database ≤ max_lsas) (sym c.area.ensures.parts)
     (within c.self.inside.router.present.id c.self.inside.router.present.area.database
     c.self.invariant.2)
 
