@@ -7,7 +7,7 @@
 //! Or an area, into which LSAs come, and the candidates of one of its routers.
 #![tactic(auto)]
 
-mod area;
+mod area_script;
 mod beginning;
 mod fault;
 mod line;

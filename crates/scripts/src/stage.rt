@@ -1,5 +1,5 @@
 //! The router of a script, played.
-use crate::area::{ScriptArea, bytes_of, root_of};
+use crate::area_script::{ScriptArea, bytes_of, root_of};
 use crate::beginning::{first_of, router_of};
 use crate::fault::ScriptError;
 use crate::line::{Happening, ScriptLine, Shown, line_of};

@@ -1,8 +1,8 @@
 //! Routers, their links, and time that goes on second by second.
 use crate::counts::{add, is_update};
 use crate::fault::NetworkError;
+use crate::one_router::InterfaceTimes;
 use crate::readings::Readings;
-use crate::router::InterfaceTimes;
 use crate::routers::Routers;
 use crate::seen::TableFaults;
 use crate::topology::Topology;

@@ -1,6 +1,6 @@
 //! What is to be played.
+use crate::one_router::InterfaceTimes;
 use crate::random::Faults;
-use crate::router::InterfaceTimes;
 use crate::topology::TopologyShape;
 
 /// What happens after the start.

@@ -3,7 +3,7 @@ use crate::acts::HistoryStep;
 use crate::destinations::prefix;
 use crate::fault::NetworkError;
 use crate::mail::Mail;
-use crate::router::{InterfaceTimes, holds_the_same, sees_full};
+use crate::one_router::{InterfaceTimes, holds_the_same, sees_full};
 use crate::routers::Routers;
 use crate::search::HistorySetting;
 use flood::{Core, Event};

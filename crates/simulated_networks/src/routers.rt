@@ -1,6 +1,6 @@
 //! The routers of a network.
 use crate::fault::NetworkError;
-use crate::router::{InterfaceTimes, begun, fulls_of, print_of};
+use crate::one_router::{InterfaceTimes, begun, fulls_of, print_of};
 use crate::topology::{FarEnd, Topology};
 use flood::{Core, CoreError, Event, Out};
 use std::alloc::{AllocError, AllocFailed, Global};

@@ -5,9 +5,9 @@ ghost use Rattle.std.specs.Prelude.{length, slice_set, take, vec_len};
 
 use crate::acts::{HistoryStep, chosen};
 use crate::fault::NetworkError;
+use crate::one_router::InterfaceTimes;
 use crate::play::Play;
 use crate::random::{Faults, Random};
-use crate::router::InterfaceTimes;
 use crate::topology::Topology;
 use flood::Event;
 use std::alloc::{AllocError, Global};
