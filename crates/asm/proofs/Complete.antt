@@ -43,7 +43,7 @@ use Rattle.std.specs.Char.{is_ascii_digit}
 use Rattle.isa.specs.declared.instruction.Extension.TheVariants as extensions
 use Rattle.isa.specs.declared.instruction.LoadSize.TheVariants as loads
 use Rattle.isa.specs.Shapes.{extension_width}
-use Rattle.asm.proofs.Numbers.{both}
+use Rattle.asm.proofs.NoNumber.{both}
 use Rattle.asm.proofs.Tokens.{hook_again, operation_again, test_again, load_again}
 use Rattle.asm.proofs.Tokens.{store_again, register_again, not_equal, not_in_table}
 use Rattle.asm.proofs.Fitting.{no_words, One, one_words, Two, two_words, Three, three_words}

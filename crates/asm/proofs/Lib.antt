@@ -11,7 +11,7 @@ pub mod Keeping
 pub mod Whole
 pub mod Texts
 pub mod Unique
-pub mod Numbers
+pub mod NoNumber
 pub mod Tokens
 pub mod Fitting
 pub mod Complete

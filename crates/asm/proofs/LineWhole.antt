@@ -15,7 +15,7 @@ use Rattle.asm.specs.Words.{Word, is_inner, is_word}
 use Rattle.asm.specs.Text.{words_in, has_bytes, lines_in, Readings}
 use Rattle.asm.specs.Written.{part_word, each_after_a_space, between_spaces, line_text}
 use Rattle.asm.specs.Written.{AreWritten, AreLines, some_reading, IsNamed}
-use Rattle.asm.proofs.Numbers.{both}
+use Rattle.asm.proofs.NoNumber.{both}
 use Rattle.asm.proofs.Items.{readings_more, map_more}
 
 abbrev is_space : ℕ → Bool

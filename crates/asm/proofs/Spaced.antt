@@ -21,7 +21,7 @@ use Rattle.asm.specs.Names.{is_letter, is_name_character, are_name_characters, i
 use Rattle.asm.specs.Words.{Word, is_inner, is_word}
 use Rattle.asm.specs.Written.{part_word, each_after_a_space, IsWritten, AreWritten, Adds}
 use Rattle.asm.specs.Written.{Starts}
-use Rattle.asm.proofs.Numbers.{both}
+use Rattle.asm.proofs.NoNumber.{both}
 
 -- ---- one after the other
 

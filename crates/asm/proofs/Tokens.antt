@@ -27,7 +27,7 @@ use Rattle.asm.specs.Words.{Word, first_match, hook_word, hook_of, operation_wor
 use Rattle.asm.specs.Words.{operation_of, test_word, test_of, load_word, load_of, store_word}
 use Rattle.asm.specs.Words.{store_of, reorder_word, reorder_of, register_word, register_of}
 use Rattle.asm.specs.Words.{extension_word, extension_of}
-use Rattle.asm.proofs.Numbers.{both}
+use Rattle.asm.proofs.NoNumber.{both}
 
 pub operation_again : (x : Operation) → operation_of (operation_word x) ≡ Some x
 operation_again operations.Add = refl

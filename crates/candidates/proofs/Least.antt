@@ -7,7 +7,7 @@ use Rattle.routes.proofs.Lists.{first_is, later_is, of_cons, of_empty}
 use Rattle.candidates.specs.Entries.{HasMetric, IsLeastMetric, rank}
 use Rattle.candidates.specs.declared.entry.AdvertisedLink.{AdvertisedLink}
 use Rattle.candidates.specs.declared.entry.EntryKind.{EntryKind}
-use Rattle.candidates.proofs.Order.{same_kind}
+use Rattle.candidates.proofs.EntryOrder.{same_kind}
 
 module _ (router : ℕ) (kind : EntryKind) (id from : ℕ) where
   abbrev Suits : AdvertisedLink → Type 0

@@ -20,7 +20,7 @@ pub mod Lists
 pub mod KeyNodes
 pub mod Leads
 pub mod GraphWhole
-pub mod Order
+pub mod EntryOrder
 pub mod GraphTold
 pub mod Least
 pub mod Steps

@@ -23,7 +23,7 @@ use Rattle.candidates.specs.declared.entry.AdvertisedLink.{AdvertisedLink}
 use Rattle.candidates.specs.declared.entry.EntryKind.{EntryKind}
 use Rattle.candidates.specs.declared.entry.EntryKind.TheVariants.{Attached, PointToPoint, Transit}
 use Rattle.candidates.proofs.Lists.{adds_all, adds_both, adds_more, adds_none, adds_one, adds_same}
-use Rattle.candidates.proofs.Order.{in_order, not_before, of_kind}
+use Rattle.candidates.proofs.EntryOrder.{in_order, not_before, of_kind}
 use Rattle.candidates.proofs.GraphWhole.{at_its_place, contained, one_place, placed}
 
 pub on_ok : {T E : Type 0} (r : Result T E) (P Q : Type 0) → (P → Q) → OnOk r P → OnOk r Q

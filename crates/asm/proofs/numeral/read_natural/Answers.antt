@@ -2,7 +2,7 @@ use Rattle.std.proofs.Common.{◌≡◌, length, true, refl, sym, rules}
 use Rattle.std.specs.Str.Parse.{digits_value}
 use Rattle.std.proofs.lemmas.Str.Parse.{parse_digits, numerals_by_value, tells_all_ascii_digits}
 use Rattle.asm.specs.WordNumbers.{is_numeral}
-use Rattle.asm.proofs.Numbers.{held_huge, is_digits, is_some, large}
+use Rattle.asm.proofs.NoNumber.{held_huge, is_digits, is_some, large}
 use Rattle.asm.proofs.numeral.read_natural.Goals as goal
 
 pub returns-in-Err : goal.returns-in-Err

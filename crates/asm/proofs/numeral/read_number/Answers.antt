@@ -1,6 +1,6 @@
 use Rattle.std.proofs.Common.{◌∙◌, lit<}
 use Rattle.std.proofs.lemmas.Str.Pattern.{strip_prefix_char}
-use Rattle.asm.proofs.Numbers.{number_unsigned}
+use Rattle.asm.proofs.NoNumber.{number_unsigned}
 use Rattle.asm.proofs.numeral.read_number.Goals as goal
 
 pub returns-in-None : goal.returns-in-None

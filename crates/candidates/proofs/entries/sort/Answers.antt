@@ -4,7 +4,7 @@ use Rattle.std.proofs.lemmas.Fn.{always_returns_same}
 use Rattle.std.proofs.lemmas.List.Sorted.{Contains-permutation, IsPermutation-sym, ranks_by}
 use Rattle.candidates.specs.Entries.{entry_cmp}
 use Rattle.candidates.specs.declared.entry.AdvertisedLink.{AdvertisedLink}
-use Rattle.candidates.proofs.Order.{entries_total}
+use Rattle.candidates.proofs.EntryOrder.{entries_total}
 use Rattle.candidates.proofs.entries.sort.Goals as goal
 
 pub returns-clause-sorted : goal.returns-clause-sorted

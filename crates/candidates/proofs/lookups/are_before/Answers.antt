@@ -2,7 +2,7 @@ use Rattle.std.proofs.Common.{◌≡◌, ◌-◌, ℕ, Some, length, slice_get, 
 use Rattle.std.proofs.lemmas.Option.{slice_get_read}
 use Rattle.candidates.specs.Entries.{entry_cmp}
 use Rattle.candidates.proofs.KeyNodes.{lt_true}
-use Rattle.candidates.proofs.Order.{lower_ones}
+use Rattle.candidates.proofs.EntryOrder.{lower_ones}
 use Rattle.candidates.proofs.lookups.are_before.Goals as goal
 
 pub returns-then-place-gt0 : goal.returns-then-place-gt0

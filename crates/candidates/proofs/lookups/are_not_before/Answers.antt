@@ -3,7 +3,7 @@ use Rattle.std.proofs.lemmas.Bool.{false≢true}
 use Rattle.std.proofs.lemmas.Option.{slice_get_read, slice_get_within}
 use Rattle.candidates.specs.Entries.{entry_cmp}
 use Rattle.candidates.proofs.KeyNodes.{lt_false}
-use Rattle.candidates.proofs.Order.{higher_ones}
+use Rattle.candidates.proofs.EntryOrder.{higher_ones}
 use Rattle.candidates.proofs.lookups.are_not_before.Goals as goal
 
 pub returns-then-place-entries : goal.returns-then-place-entries

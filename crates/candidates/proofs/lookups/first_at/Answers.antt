@@ -3,7 +3,7 @@ use Rattle.std.proofs.lemmas.Fn.{always_returns_same}
 use Rattle.std.specs.Ordering.{is_lt}
 use Rattle.candidates.specs.Entries.{entry_cmp}
 use Rattle.candidates.specs.declared.entry.AdvertisedLink.{AdvertisedLink}
-use Rattle.candidates.proofs.Order.{IsPoint, before, beyond, parted}
+use Rattle.candidates.proofs.EntryOrder.{IsPoint, before, beyond, parted}
 use Rattle.candidates.proofs.lookups.first_at.Goals as goal
 
 pub returns : goal.returns

@@ -1,6 +1,6 @@
 use Rattle.std.proofs.Common.{◌≡◌, Some, length, slice_get, arith, refl}
 use Rattle.std.proofs.lemmas.Option.{slice_get_read}
-use Rattle.candidates.proofs.Order.{has_found}
+use Rattle.candidates.proofs.EntryOrder.{has_found}
 use Rattle.candidates.proofs.lookups.has_entry_near.Goals as goal
 
 pub returns-then-is_of : goal.returns-then-is_of

@@ -2,7 +2,7 @@ use Rattle.std.proofs.Common.{◌≡◌, Some, length, slice_get, arith, refl, s
 use Rattle.std.proofs.lemmas.Bool.{false≢true}
 use Rattle.std.proofs.lemmas.Option.{slice_get_read}
 use Rattle.candidates.specs.declared.entry.AdvertisedLink.{AdvertisedLink}
-use Rattle.candidates.proofs.Order.{least_beside, none_beside, none_left}
+use Rattle.candidates.proofs.EntryOrder.{least_beside, none_beside, none_left}
 use Rattle.candidates.proofs.lookups.least_metric.Goals as goal
 
 pub returns-then-at-entries : goal.returns-then-at-entries
