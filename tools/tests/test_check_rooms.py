@@ -1,14 +1,32 @@
-"""tools/check-rooms: rows and sections that aren't those of crates.txt are told of."""
+"""tools/check-rooms: the page of the crates is made of crates.txt, and sections that aren't those of crates.txt are told of."""
 import pathlib
 import runpy
 import unittest
 
 TOP = pathlib.Path(__file__).resolve().parent.parent.parent
+LIST = """# The crates.
+
+# Packets
+## docs/proof/rooms/packets.md
+## Bytes and what they say.
+#: LSAs
+lsa: words
+#: packets
+packet may_wait=1: lsa
+
+# Tests
+#: of `flood`
+core_tests: flood
+"""
 PAGE = """# The crates
+
+What stands here stays.
 
 ## Packets
 
 What is proved: [docs/proof/rooms/packets.md](../docs/proof/rooms/packets.md).
+
+Bytes and what they say.
 
 | Crate | What it is for |
 |---|---|
@@ -27,20 +45,22 @@ TOOL = runpy.run_path(str(TOP / "tools/check-rooms"), run_name="check_rooms")
 
 
 class TestCheckRooms(unittest.TestCase):
-    def faults(self, **pages: str) -> list[str]:
-        texts = {f"docs/proof/rooms/{name}.md": text for name, text in pages.items()}
-        return TOOL["proof_faults"](TOOL["rooms_of"](PAGE), TOOL["pages_of"](PAGE), texts)
+    def faults(self, text: str = LIST, **pages: str) -> list[str]:
+        return TOOL["proof_faults"](TOOL["rooms_of"](text), {f"docs/proof/rooms/{name}.md": it for name, it in pages.items()})
 
-    def test_rows_that_differ_from_the_list(self) -> None:
-        for lines, told in [
-            ("# Packets\nlsa: words\npacket: lsa\n\n# Tests\ncore_tests may_wait=1: flood\n", None),
-            ("# Packets\nlsa: words\n\n# Tests\ncore_tests: flood\n", "crates.txt has no line for `packet`"),
-            ("# Packets\nlsa:\npacket:\nelf:\n# Tests\ncore_tests:\n", "crates/README.md has no row for `elf`"),
-            ("# Packets\npacket:\nlsa:\n# Tests\ncore_tests:\n", "another order than crates.txt"),
-        ]:
-            with self.subTest(lines):
-                found = " ".join(TOOL["faults"](TOOL["rooms_of"](PAGE), f"# The crates.\n\n{lines}"))
-                self.assertEqual(found, "") if told is None else self.assertIn(told, found)
+    def test_the_page_is_made_of_the_list(self) -> None:
+        rooms = TOOL["rooms_of"](LIST)
+        self.assertEqual(TOOL["page_of"]("# The crates\n\nWhat stands here stays.\n\n## Old\n\n| `old` | gone |\n", rooms), PAGE)
+        self.assertEqual(TOOL["faults"](rooms, PAGE), [])
+
+    def test_a_page_that_differs_from_the_list(self) -> None:
+        for old, new in (("lsa: words", "elf: words"), ("#: LSAs", "#: LSAs as bytes"), ("# Packets", "# Bytes"), ("## Bytes and what they say.\n", "")):
+            with self.subTest(new):
+                self.assertIn("tools/check-rooms --write", " ".join(TOOL["faults"](TOOL["rooms_of"](LIST.replace(old, new)), PAGE)))
+
+    def test_a_crate_of_which_nothing_is_said(self) -> None:
+        found = TOOL["faults"](TOOL["rooms_of"](LIST.replace("#: packets\n", "")), PAGE)
+        self.assertIn("crates.txt has no line '#: ' before `packet`", found)
 
     def test_a_section_for_each_crate_of_the_room(self) -> None:
         self.assertEqual(self.faults(packets="# Packets\n\n## lsa\n\n### Open\n\n## packet\n"), [])
@@ -56,7 +76,9 @@ class TestCheckRooms(unittest.TestCase):
 
     def test_pages_that_differ(self) -> None:
         self.assertIn("docs/proof/rooms/packets.md isn't there", self.faults())
-        self.assertIn("no room of crates/README.md names docs/proof/rooms/old.md", self.faults(packets="## lsa\n## packet\n", old=""))
+        self.assertIn("no room of crates.txt names docs/proof/rooms/old.md", self.faults(packets="## lsa\n## packet\n", old=""))
+        unnamed = self.faults(LIST.replace("## docs/proof/rooms/packets.md\n", ""), packets="## lsa\n## packet\n")
+        self.assertIn("the room 'Packets' of crates.txt names no page of docs/proof/rooms/", unnamed)
 
 
 if __name__ == "__main__":
