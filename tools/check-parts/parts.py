@@ -64,7 +64,7 @@ def before_programs() -> list[Part]:
         Part("host", "the tests of the box", tests, ("host/*", "debian/*"), 90, tests="host/tests"),
         Part("tools", "the tests of the tools", tests, of_tools, 70, tests="tools/tests"),
         Part("private", "what only one crate may make doesn't compile elsewhere", ("tools/try-private",),
-             ("crates/*/src/*", "crates/*/must-not-compile/*", "crates/*/mutants/*", "tools/try-private"), 45, lacks=no_kit),
+             ("crates/*/src/*", "crates/*/mutants/*", "tools/try-private"), 45, lacks=no_kit),
         Part("lints", "Python compiles without a warning, Rattle is in its layout", (sys.executable, "-W", "error", str(HERE / "lints.py")),
              ("host/*", "tools/*", "demo", "check", ".ci/*", "examples/c/try", "crates/*.rt", "crates/*.antt"), 6),
     ]

@@ -15,7 +15,7 @@ class Gate(unittest.TestCase):
         """Returns the status and the lines of a run whose steps are these texts of sh."""
         texts = {"check": "echo '5 passed, 0 failed, 1 skipped'", "tools/check-kit": "echo kit", "tools/gate-progress": "echo '83 passed, 0 failed'",
                  "tools/try-anywhere": "echo '2 passed, 0 failed, 0 skipped'",
-                 "tools/try-bodies": "echo '23 refused, 0 not'", "docs/work/GATE.md": ""} | steps
+                 "tools/try-edits": "grep -q '83 passed' $2 && echo '19 wrong bodies refused, 0 not'", "docs/work/GATE.md": ""} | steps
         with tempfile.TemporaryDirectory() as room:
             for name, text in texts.items():
                 file = pathlib.Path(room, name)
@@ -42,6 +42,11 @@ class Gate(unittest.TestCase):
         for said, last in (("echo '80 passed, 3 failed'; exit 1", "87 passed, 3 failed, 1 skipped"), ("exit 2", "7 passed, 1 failed, 1 skipped")):
             status, lines = self.ran(**{"tools/gate-progress": said})
             self.assertEqual((status, lines[-1]), (1, last))
+
+    def test_a_wrong_body_that_no_goal_refused_is_counted(self) -> None:
+        status, lines = self.ran(**{"tools/try-edits": "echo '18 wrong bodies refused, 1 not'; exit 1"})
+        self.assertEqual((status, lines[-1]), (1, "95 passed, 1 failed, 2 skipped"))
+        self.assertIn("gate: FAILED: wrong bodies", lines)
 
     def test_without_a_kit_nothing_is_begun(self) -> None:
         status, lines = self.ran(**{"tools/check-kit": "exit 3"})
