@@ -1,6 +1,6 @@
 -- A test of each link, up to the first that passes.
 use Rattle.std.proofs.Common.{◌≡◌, ℕ, zero, suc, ◌+◌, ◌<◌, Bool, true, false, ◌||◌, List, [], ◌∷◌}
-use Rattle.std.proofs.Common.{length, map, get_or, refl, ap, ◌∙◌, arith}
+use Rattle.std.proofs.Common.{length, map, get_or, refl, ap, sym, ◌∙◌, arith}
 use Rattle.std.specs.List.{list_any}
 use Rattle.std.specs.Prelude.{Option, None, Some}
 use Rattle.words.specs.declared.key.Key.{Key}
@@ -17,6 +17,12 @@ pub retransmits_is : (key : Key) (o : Option Neighbor)
     → neighbor.has_retransmission key o ≡ has_retransmission key o
 retransmits_is key None = refl
 retransmits_is key (Some n) = refl
+
+pub either_true : (a b : Bool) → a ≡ true → a ≡ (a || b)
+either_true a b is = is ∙ sym (ap (λ c. c || b) is)
+
+pub either_false : (a b : Bool) → a ≡ false → b ≡ (a || b)
+either_false a b is = sym (ap (λ c. c || b) is)
 
 -- p is the view of an item, t the test of the view
 module _ {X L : Type 0} (p : X → L) (t : L → Bool) where

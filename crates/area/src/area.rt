@@ -4,7 +4,9 @@
 //! as the definition that it names, adds what that sends to the drafts of the interfaces, and
 //! leaves what was committed and the Router ID as they were. If it errors with `AllocError`, it may
 //! have done a part of its work; its caller then rolls back, which drops what was drafted, too.
-ghost use Rattle.std.specs.Prelude.{◌≡◌, map, IfOk, OnOk};
+ghost use Rattle.std.specs.Prelude.{◌≡◌, ◌||◌, map, IfOk, OnOk};
+ghost use Rattle.lsdb.specs.Limits.{exceeds as database_exceeds};
+ghost use Rattle.received.specs.Links.{any_long_list};
 ghost use Rattle.std.specs.FinMap as finite;
 ghost use Rattle.area.specs.Drafted.{nothing_at};
 ghost use Rattle.area.specs.Links.{area_of, committed_link, draft_of, present};
@@ -13,6 +15,7 @@ mod copying;
 
 use crate::flood::{commit_links, roll_back_links, take_drafts};
 use crate::link::Link;
+use crate::on_links::any_long_list;
 use adjacency::{Draft, Lsdb};
 use std::alloc::{AllocError, Global};
 use std::marker::Model;
@@ -93,6 +96,14 @@ impl Area {
         } }
     {
         &self.database
+    }
+
+    /// Whether the database or a list of a link exceeds a limit.
+    pub fn exceeds(&self) -> bool
+        ensures { result ≡ (database_exceeds self.now.router self.now.present.database
+            || any_long_list self.now.present.links) }
+    {
+        self.database.exceeds() || any_long_list(&self.links)
     }
 
     /// Makes the changes so far final, and drops what was drafted. It doesn't allocate.

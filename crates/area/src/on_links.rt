@@ -6,7 +6,7 @@ ghost use Rattle.adjacency.specs.Adjacencies.{mismatch_step};
 ghost use Rattle.adjacency.specs.Contents.{Acknowledges, Updates, no_sends};
 ghost use Rattle.adjacency.specs.Retransmissions.{remove_retransmission};
 ghost use Rattle.received.specs.Links.{any_exchange_or_loading, delay_acknowledgment};
-ghost use Rattle.received.specs.Links.{any_has_retransmission, change_link};
+ghost use Rattle.received.specs.Links.{any_has_retransmission, any_long_list, change_link};
 ghost use Rattle.received.specs.AreaStates.{sends_at, only_at, stepped_links, stepping_sends};
 ghost use Rattle.area.specs.Doing.{LinksDo};
 ghost use Rattle.area.specs.Links.{present};
@@ -37,6 +37,19 @@ pub fn any_has_retransmission(key: &Key, links: &[Link]) -> bool
     for i in 0..links.len() {
         let has = links[i].has_retransmission(key);
         if has {
+            return true;
+        }
+    }
+    false
+}
+
+/// Whether some link has a list that is longer than any lawful neighbor makes it.
+pub fn any_long_list(links: &[Link]) -> bool
+    ensures { result ≡ any_long_list (map present links.now) }
+{
+    for i in 0..links.len() {
+        let is = links[i].has_long_list();
+        if is {
             return true;
         }
     }

@@ -14,6 +14,7 @@ use Rattle.event_rules.specs.declared.model.Out.{Out}
 use Rattle.event_rules.specs.Commands.{is_for, same_external}
 use Rattle.event_rules.specs.Events.{Happens}
 use Rattle.lsdb.specs.Limits.{exceeds as database_exceeds}
+use Rattle.received.specs.Links.{any_long_list}
 use Rattle.event_rules.specs.Originations.{external_key}
 use Rattle.event_rules.specs.Routers.{Occurrence, Router}
 
@@ -62,9 +63,11 @@ refusal_before_limits old moment event =
 
 -- ---- limits
 
--- more than 16,384 LSAs, or more than 4,096 self-originated AS-external-LSAs among them
+-- more than 16,384 LSAs, or more than 4,096 self-originated AS-external-LSAs among them; or an
+-- interface with more than 16,384 LSAs to be requested, or with more than 32,768 delayed
+-- acknowledgments
 abbrev pub exceeds : Router → Bool
-exceeds r = database_exceeds r.id r.area.database
+exceeds r = database_exceeds r.id r.area.database || any_long_list r.area.links
 
 -- nothing else is wrong with the event, and its result would exceed a limit
 pub record WouldExceed (old : Router) (moment : ℕ) (event : Occurrence) : Type 0 where

@@ -14,3 +14,4 @@ mod Unheeded
 mod Forgotten
 mod Noted
 pub mod Allowed
+pub mod Within

@@ -123,6 +123,10 @@ IsNotedIn before e new = (new.start ≡ before.start) × EndsWith before.journal
 abbrev pub IsNotedAtLast : (old : BookView) → JournalEntry → (new : BookView) → Type 0
 IsNotedAtLast old e new = (before : BookView) × MayBeMarked old before × IsNotedIn before e new
 
+-- the last event isn't noted: the book starts from the router behind it, with an empty journal
+abbrev pub IsUnnoted : BookView → Type 0
+IsUnnoted b = (b.start ≡ b.current) × (b.journal ≡ [])
+
 -- what holds of the fields of every book that began with this router; `total` is its ledger's
 pub record IsBook (origin : Router) (start : Router) (journal : List JournalEntry) (now : Router)
     (bytes taken total : ℕ) : Type 0 where

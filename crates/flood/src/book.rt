@@ -9,7 +9,7 @@ ghost use Rattle.flood.specs.Occurrences.{occurrence_of};
 ghost use Rattle.flood.specs.Offers.{IsStaleNow};
 ghost use Rattle.flood.specs.Refusals.{BookRefusesByRules, BookRefusesWithMarksByRules, IsFull};
 ghost use Rattle.flood.specs.Refusals.{IsRefusedEarly, without_event};
-ghost use Rattle.flood.specs.Replay.{IsDue, IsLightened, IsNotedAtLast, MayBeMarked};
+ghost use Rattle.flood.specs.Replay.{IsDue, IsLightened, IsNotedAtLast, IsUnnoted, MayBeMarked};
 ghost use Rattle.flood.specs.Replay.{IsMarkedIfDue, IsAfterEvents, Replays, entry, marked_book};
 ghost use Rattle.flood.specs.Replay.{start_of};
 ghost use Rattle.flood.specs.Replay.{started_book};
@@ -111,6 +111,15 @@ fn hold(start: &mut Option<Core>, now: &Core) -> Result<(), AllocError>
         other.close();
     }
     Ok(())
+}
+
+// Drops the copy that is the router at the start: the router as it is now stands for it.
+fn drop_start(start: &mut Option<Core>)
+    ensures { start.new ≡ None }
+{
+    if let Some(start) = replace(start, None) {
+        start.close();
+    }
 }
 
 impl<L: Origin> Book<L> {
@@ -264,12 +273,10 @@ impl<L: Origin> Book<L> {
     fn mark_now(&mut self)
         ensures { self.new ≡ marked_book self.old }
     {
-        if let Some(start) = replace(&mut self.start, None) {
-            start.close();
-        }
         self.journal.clear();
         self.installed = None;
         self.journal_bytes = 0;
+        drop_start(&mut self.start);
     }
 
     // Whether the journal holds 65,536 events, or more bytes than it may beside the router's LSAs.
@@ -312,7 +319,10 @@ impl<L: Origin> Book<L> {
     /// Takes an event as [`apply`](Book::apply) does, in a book that is marked first if its journal
     /// is full, or if its events hold more bytes than 256 KiB and 256 for each LSA of the router.
     /// So `Journal` is answered only if 2^63 events were taken. If memory is refused, the book is
-    /// marked, which gives memory back, and the event is tried once more.
+    /// marked, which gives memory back, and the event is tried once more. Such an event isn't noted:
+    /// the book starts from the router behind it, and no copy is made. So is each event while the
+    /// lists of the neighbors have more than 65,536 entries, whose copy would take longer than the
+    /// events that it is kept for.
     ///
     /// An Install that another one follows stands in the journal without its answers, since no
     /// router after the later one tells them: so the journal holds the answers of one alone.
@@ -332,7 +342,8 @@ impl<L: Origin> Book<L> {
         requires { 0 < mine.old.parts }
         ensures ok { IfOk result (λ outs. Happens
             self.old.current moment (occurrence_of event) outs.items self.new.current) }
-        ensures noted { OnOk result (IsNotedAtLast self.old (entry moment event) self.new) }
+        ensures noted { OnOk result
+            (IsNotedAtLast self.old (entry moment event) self.new ⊎ IsUnnoted self.new) }
         ensures taken { OnOk result (self.new.taken ≡ self.old.taken + 1) }
         ensures share { OnOk result (mine.new.amount ≡ mine.old.amount + 1) }
         ensures parts { mine.new.parts ≡ mine.old.parts }
@@ -351,6 +362,9 @@ impl<L: Origin> Book<L> {
         if let Some(error) = self.now().early_refusal(moment, &event) {
             return Err(BookError::Core(error));
         }
+        if self.current.has_long_lists() {
+            return self.take_unnoted(mine, moment, &event);
+        }
         self.make_room();
         let refused = match self.attempt(mine, moment, event) {
             Ok(outs) => {
@@ -362,14 +376,36 @@ impl<L: Origin> Book<L> {
         if !refused.is_short() {
             return Err(refused.error);
         }
+        self.take_unnoted(mine, moment, &refused.event)
+    }
+
+    // Marks the book, and takes an event that isn't noted in its journal. It wants no memory but what
+    // the router itself wants.
+    fn take_unnoted(
+        &mut self,
+        mine: &mut Share<L>,
+        moment: Second,
+        event: &Event,
+    ) -> Result<Vec<Out>, BookError>
+        requires parts { 0 < mine.old.parts }
+        requires few { self.old.taken < 2 ^ 63 }
+        requires early { early_refusal self.old.current moment (occurrence_of event.now) ≡ None }
+        ensures ok { IfOk result (λ outs. Happens
+            self.old.current moment (occurrence_of event.now) outs.items self.new.current) }
+        ensures unnoted { OnOk result (IsUnnoted self.new) }
+        ensures taken { OnOk result (self.new.taken ≡ self.old.taken + 1) }
+        ensures share { OnOk result (mine.new.amount ≡ mine.old.amount + 1) }
+        ensures parts { mine.new.parts ≡ mine.old.parts }
+        ensures refused { BookRefusesWithMarksByRules self.old moment event.now result }
+        ensures err { OnErr result
+            ((self.new ≡ marked_book self.old) × (mine.new.amount ≡ mine.old.amount)) }
+    {
         self.mark_now();
-        match self.attempt(mine, moment, refused.event) {
-            Ok(outs) => {
-                self.lighten();
-                Ok(outs)
-            }
-            Err(refused) => Err(refused.error),
-        }
+        drop_start(&mut self.start);
+        let outs = self.current.step(moment, event)?;
+        self.total.add(mine, 1);
+        self.taken += 1;
+        Ok(outs)
     }
 
     /// For the prover alone: tells it that the book has taken at least as many events as the share

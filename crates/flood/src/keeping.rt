@@ -86,7 +86,7 @@ pub fn pack_and_update_routes(
         routes.old routes.new) }
     ensures err { OnErr result (routes.new ≡ routes.old) }
 {
-    if router.area().database().exceeds() {
+    if router.area().exceeds() {
         return Err(CoreError::Full);
     }
     let outs = outs(alloc, own, drafts)?;

@@ -26,6 +26,9 @@ use std::alloc::{AllocError, Global};
 use std::marker::Model;
 use words::{Prefix, Route, RouterId, Second, external_key};
 
+// The most entries of all neighbors' lists that aren't called long.
+const LONG_LISTS: usize = 65_536;
+
 /// A router as one value. It has no clock, no socket and no lock: moments, bytes and answers are
 /// passed to it.
 #[derive(Drop)]
@@ -228,6 +231,16 @@ impl Core {
             return 0;
         }
         links[interface - 1].owes()
+    }
+
+    /// Whether the request lists and retransmission lists of all neighbors together have more than
+    /// 65,536 entries.
+    pub fn has_long_lists(&self) -> bool {
+        let mut sum = 0usize;
+        for link in self.router.area().links() {
+            sum = sum.saturating_add(link.owes());
+        }
+        sum > LONG_LISTS
     }
 
     /// The candidates for the routing table at the moment of the last event (RFC 2328, section 16).

@@ -12,6 +12,7 @@ pub mod Invariants
 pub mod Always
 pub mod Requesting
 pub mod Limits
+pub mod Short
 pub mod Retransmitted
 pub mod OwnLsas
 pub mod EventWalk

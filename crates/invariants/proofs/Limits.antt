@@ -4,7 +4,7 @@ use Rattle.std.proofs.Common.{◌≡◌, ◌≤◌, ◌<◌, ℕ, ◌+◌, Bool,
 use Rattle.std.proofs.Common.{nat_lt, List, [], ◌∷◌, map, Option, None, Some, is_some, refl, sym}
 use Rattle.std.proofs.Common.{ap, subst, ◌∙◌, arith}
 use Rattle.std.specs.FinMap as finite
-use Rattle.std.specs.List.{fold}
+use Rattle.std.specs.List.{fold, list_any}
 use Rattle.std.proofs.lemmas.Bool.{le-ltb, ltb-false, ltb-true, and_parts, or_parts, or_from}
 use Rattle.words.specs.Numbers.{RouterNumber}
 use Rattle.words.specs.declared.key.Key.{Key}
@@ -17,6 +17,7 @@ use Rattle.packet.specs.declared.model.Hello.{Hello}
 use Rattle.lsdb.specs.Copies.{Database, DatabaseCopy, age_prematurely, has_just_aged_out}
 use Rattle.lsdb.specs.Copies.{install_originated, lsa_now}
 use Rattle.lsdb.specs.Headers.{Lsa, lsa_with_age, lsa_key}
+use Rattle.lsdb.specs.Limits.{exceeds as database_exceeds}
 use Rattle.lsdb.specs.Keys.{ByKey, key_cmp, same_key}
 use Rattle.lsdb.proofs.Keys.{keys_exact, keys_total}
 pub use Rattle.lsdb.proofs.Keys.{tied as tied_key}
@@ -29,14 +30,14 @@ use Rattle.adjacency.specs.Requests.{request_next}
 use Rattle.adjacency.specs.Retransmissions.{after_acknowledgment}
 use Rattle.adjacency.proofs.Kept.{chosen}
 use Rattle.received.specs.Flooding.{flood_to}
-use Rattle.received.specs.Links.{Link, change_link, link_at}
+use Rattle.received.specs.Links.{Link, change_link, has_long_list, link_at}
 use Rattle.received.specs.AreaStates.{AreaState, Send, Stepping, each_neighbor, marked_database}
 use Rattle.received.specs.AreaStates.{sends_at, on_database, on_links, one_neighbor, only_at}
 use Rattle.received.specs.AreaStates.{sending}
 use Rattle.received.specs.AreaStates.{stepping_sends, sends_of}
 use Rattle.received.proofs.Marks.{changed_by}
 use Rattle.event_rules.specs.declared.model.Out.{Out}
-use Rattle.event_rules.specs.Endings.{end_event, flood_if_aged, stays}
+use Rattle.event_rules.specs.Endings.{end_event, flood_if_aged, start_event, stays}
 use Rattle.event_rules.specs.declared.model.Config.{Config}
 use Rattle.event_rules.specs.Events.{Happens, Run, Step as RunStep, initial}
 use Rattle.event_rules.specs.EventState.{EventState, flood_from_nobody}
@@ -53,6 +54,8 @@ use Rattle.event_rules.proofs.Walk.{Brings, Invariant, IsKeptByParts, MayGrow, O
 use Rattle.event_rules.proofs.Walk.{originate_or_wait_kept, outcome}
 use Rattle.invariants.specs.LimitLaws.{AnnouncesExternals, OthersStayWithinLimits, may_exceed}
 use Rattle.invariants.proofs.Lists.{none_asked}
+use Rattle.invariants.proofs.Short.{AreShort, fresh_short, none_long, not_long, originated_short}
+use Rattle.invariants.proofs.Short.{short_after}
 use Rattle.invariants.proofs.Unasked.{brought_any}
 
 -- ---- keys and options
@@ -360,36 +363,53 @@ brings id old event may = record {
       absurd cc;
 }
 
-is_within : (r : Router) → exceeds r ≡ false → IsWithin r.id r.area.database
+is_within : (r : Router) → exceeds r ≡ false
+    → IsWithin r.id r.area.database × AreShort r.area.links
 is_within r e =
-    let both = or_parts (nat_lt 16384 (finite.len r.area.database)) _ e in record {
-      all = ltb-false 16384 (finite.len r.area.database) both.0;
-      externals = subst (λ n. n ≤ 4096) (count_keys (is_own_external r.id) r.area.database)
-          (ltb-false 4096 (own_externals r.id r.area.database) both.1);
-    }
+    let parts = or_parts (database_exceeds r.id r.area.database)
+    (list_any has_long_list r.area.links) e in
+    let both = or_parts (nat_lt 16384 (finite.len r.area.database)) _ parts.0 in (
+      record {
+        all = ltb-false 16384 (finite.len r.area.database) both.0;
+        externals = subst (λ n. n ≤ 4096) (count_keys (is_own_external r.id) r.area.database)
+            (ltb-false 4096 (own_externals r.id r.area.database) both.1);
+      },
+      none_long r.area.links parts.1,
+    )
 
 is_not_past : (id : RouterNumber) (r : Router) → r.id ≡ id → IsWithin id r.area.database
-    → exceeds r ≡ false
-is_not_past id r same h =
+    → AreShort r.area.links → exceeds r ≡ false
+is_not_past id r same h short =
     let few : own_externals r.id r.area.database ≤ 4096 =
     subst (λ (i : RouterNumber). own_externals i r.area.database ≤ 4096) (sym same)
     (subst (λ n. n ≤ 4096) (sym (count_keys (is_own_external id) r.area.database)) h.externals)
     in
-    or_from (nat_lt 16384 (finite.len r.area.database))
+    or_from (database_exceeds r.id r.area.database) (list_any has_long_list r.area.links)
+    (or_from (nat_lt 16384 (finite.len r.area.database))
     (nat_lt 4096 (own_externals r.id r.area.database))
     (le-ltb 16384 (finite.len r.area.database) h.all)
-    (le-ltb 4096 (own_externals r.id r.area.database) few)
+    (le-ltb 4096 (own_externals r.id r.area.database) few)) (not_long r.area.links short)
 
 kept : (old : Router) (moment : ℕ) (event : Occurrence) (outs : List Out) (new : Router)
     → AnnouncesExternals old → may_exceed event ≡ false → Happens old moment event outs new
     → exceeds old ≡ false → exceeds new ≡ false
 kept old moment event outs new externals may happens fine =
+    let old_within = is_within old fine in
     let end : OfEvent (within old.id) (end_event old moment happens.after) =
     event_kept (within old.id) (parts_within old.id) old moment event happens.after
     (brings old.id old event may) happens.own
-    (record { area = is_within old fine; announced = (refl, externals) }) in
+    (record { area = old_within.0; announced = (refl, externals) }) in
+    let begun : OfEvent (within old.id) (start_event moment old) = record {
+      area = ages_within old.id old.moment moment (finite.entries old.area.database) (record {
+        area = old.area;
+        sends = [];
+      }) old_within.0;
+      announced = (refl, externals);
+    } in
+    let short = short_after (within old.id) (parts_within old.id) old moment event may
+    happens.after (brings old.id old event may) happens.own begun old_within.1 in
     subst (λ (r : Router). exceeds r ≡ false) (sym happens.router)
-    (is_not_past old.id (end_event old moment happens.after).router end.announced.0 end.area)
+    (is_not_past old.id (end_event old moment happens.after).router end.announced.0 end.area short)
 
 -- ---- the start
 
@@ -412,6 +432,7 @@ start c =
     begun tt
     (record { area = empty_within c.router; announced = (refl, none_announced) }) in
     is_not_past c.router (initial c) end.announced.0 end.area
+    (originated_short c.start (router_key c.router) begun (fresh_short c.interfaces))
 
 -- ---- what is announced, in every run
 

@@ -4,12 +4,18 @@ ghost use Rattle.adjacency.specs.Asked.{neighbor_is_exchange_or_loading, has_ret
 ghost use Rattle.adjacency.specs.Asked.{has_retransmission};
 ghost use Rattle.adjacency.specs.Asked.{is_on_request_list};
 ghost use Rattle.adjacency.specs.Steps.{named_neighbor};
+ghost use Rattle.received.specs.Links.{has_long_list, requested_of};
 ghost use Rattle.area.specs.Owed.{owed_on};
 
 use super::Link;
 use adjacency::{NeighborState, is_entry, is_exchange_or_loading};
 use lsa::Header;
+use lsdb::MAX_LSAS;
 use words::{Key, RouterId, Second};
+
+/// The most delayed acknowledgments of an interface. In one second each key of a full database can
+/// be flushed, and as many new ones come.
+const MAX_DELAYED: usize = 32_768;
 
 impl Link {
     /// The neighbor's Router ID and its state, unless it is Down.
@@ -63,6 +69,24 @@ impl Link {
         };
         let listed = neighbor.retransmissions().get(&header.key());
         is_entry(moment, header, listed)
+    }
+
+    // How many LSAs are still to be requested from the neighbor; 0 if it is Down.
+    fn requested(&self) -> usize
+        ensures { result ≡ requested_of self.now.present.neighbor }
+    {
+        match &self.slot.neighbor {
+            None => 0,
+            Some(neighbor) => neighbor.requests().len(),
+        }
+    }
+
+    /// Whether more LSAs are to be requested than a database may hold, 16,384, or more than 32,768
+    /// acknowledgments are delayed.
+    pub fn has_long_list(&self) -> bool
+        ensures { result ≡ has_long_list self.now.present }
+    {
+        self.requested() > MAX_LSAS || self.acknowledgments.len() > MAX_DELAYED
     }
 
     /// How many entries the neighbor's retransmission list and request list have; 0 if it is Down.

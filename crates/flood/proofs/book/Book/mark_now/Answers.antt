@@ -11,9 +11,9 @@ invariant_of-self g c =
     let emptied : c.clear.new.self.items ≡ [] = c.clear.ensures.items in
     record {
       replays =
-          (let P : List JournalEntry → Type 0 = λ journal. Replays (start_of c.replace.new.dest now)
+          (let P : List JournalEntry → Type 0 = λ journal. Replays (start_of c.drop_start.new.start now)
           journal now in
-          subst P (sym emptied) ([], refl, sym (ap (λ o. start_of o now) c.replace.ensures.after)));
+          subst P (sym emptied) ([], refl, sym (ap (λ o. start_of o now) c.drop_start.ensures)));
       leads = kept.leads;
       weighed = (let P : List JournalEntry → Type 0 = λ journal. 0 ≡ bytes_of journal in
           subst P (sym emptied) refl);

@@ -2,6 +2,7 @@ use Rattle.std.proofs.Common.{◌≡◌, ◌≤◌, true, length, rules, sym, ap
 use Rattle.std.specs.FinMap as finite
 use Rattle.words.specs.Constants.{max_lsas}
 use Rattle.area_routes.proofs.Limits.{within}
+use Rattle.flood.proofs.Within.{database_within}
 use Rattle.event_rules.specs.RoomLaws.{IsRoomy}
 use Rattle.event_rules.proofs.Roomy.{every_packet_has_room}
 use Rattle.event_rules.specs.Refusals.{exceeds}
@@ -46,4 +47,5 @@ new-requires-clause-size c =
     let is = ap (λ k. k.present) c.commit.ensures ∙ c.in_ok-router.ensures in
     let fine = ap exceeds is ∙ others_stay_within_limits.start c.args.config.now in
     subst (λ (a : RouterArea). finite.len a.present.database ≤ max_lsas) (sym c.area.ensures.parts)
-    (within c.commit.new.self.present.id c.commit.new.self.present.area.database fine)
+    (within c.commit.new.self.present.id c.commit.new.self.present.area.database
+    (database_within c.commit.new.self.present fine))

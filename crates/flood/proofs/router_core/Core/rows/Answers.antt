@@ -2,6 +2,7 @@ use Rattle.std.proofs.Common.{◌≤◌, length, refl, ap, subst, sym}
 use Rattle.std.specs.FinMap as finite
 use Rattle.words.specs.Constants.{max_lsas}
 use Rattle.area_routes.proofs.Limits.{within}
+use Rattle.flood.proofs.Within.{database_within}
 use Rattle.area_routes.specs.Kept.{AreRoutesOf}
 use Rattle.area_routes.specs.Offers.{IsTableOf}
 use Rattle.event_rules.specs.Routers.{Router}
@@ -18,7 +19,7 @@ pub table-requires-clause-size : goal.table-requires-clause-size
 table-requires-clause-size c =
     subst (λ (a : RouterArea). finite.len a.present.database ≤ max_lsas) (sym c.area.ensures.parts)
     (within c.self.inside.router.present.id c.self.inside.router.present.area.database
-    c.self.invariant.2)
+    (database_within c.self.inside.router.present c.self.invariant.2))
 
 pub table-requires-clause-routes : goal.table-requires-clause-routes
 table-requires-clause-routes c =

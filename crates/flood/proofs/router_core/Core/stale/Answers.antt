@@ -3,6 +3,7 @@ use Rattle.std.specs.FinMap as finite
 use Rattle.std.specs.Prelude.{◌↔◌, IsTrue}
 use Rattle.words.specs.Constants.{max_lsas}
 use Rattle.area_routes.proofs.Limits.{within}
+use Rattle.flood.proofs.Within.{database_within}
 use Rattle.area_routes.specs.Kept.{AreKept}
 use Rattle.area_routes.specs.Offers.{IsStaleOf}
 use Rattle.event_rules.specs.Routers.{Router}
@@ -19,7 +20,7 @@ pub is_stale-requires-clause-size : goal.is_stale-requires-clause-size
 is_stale-requires-clause-size c =
     subst (λ (a : RouterArea). finite.len a.present.database ≤ max_lsas) (sym c.area.ensures.parts)
     (within c.self.inside.router.present.id c.self.inside.router.present.area.database
-    c.self.invariant.2)
+    (database_within c.self.inside.router.present c.self.invariant.2))
 
 pub is_stale-requires-clause-kept : goal.is_stale-requires-clause-kept
 is_stale-requires-clause-kept c =
