@@ -9,7 +9,9 @@ use Rattle.event_rules.specs.declared.model.Out.{Out}
 use Rattle.invariants.specs.InOrder.{AnnouncesItsOwn, IsConsistent}
 use Rattle.invariants.specs.Keeping.{AnnouncesAddress, AreTexts, HasNumbersInRange}
 use Rattle.invariants.specs.Keeping.{KeepsWhatIsKnown}
+use Rattle.invariants.specs.LawfulSends.{SendsLawfully}
 use Rattle.invariants.proofs.Keeping.{events_keep_what_is_known, instances_stay_in_range}
+use Rattle.invariants.proofs.Keeping.{sends_in_range}
 use Rattle.invariants.proofs.Known.{router_stays}
 use Rattle.invariants.proofs.Acknowledged.{routers_stay_in_order}
 use Rattle.event_rules.specs.Endings.{start_event}
@@ -43,6 +45,19 @@ module _ (old : Router) (moment : ℕ) (event : Occurrence) (p : Part) (is : IsP
   made_keeps outs new made_state address order holds texts =
       events_keep_what_is_known old moment event outs new (made_happens outs new made_state) address
       order holds texts
+
+  -- and sends lawfully, if the packets are encoded correctly
+  pub made_lawful : (outs : List Out) (new : Router) → PartHappens old moment p outs new
+      → AnnouncesAddress event → IsConsistent old → HasNumbersInRange old
+      → AreTexts old.id old.area.links (made_state old moment p).sends
+      → SendsLawfully old moment event outs new
+  unfolding made_happens
+  made_lawful outs new made_state address order holds texts = record {
+    happens = made_happens outs new made_state;
+    in_range = sends_in_range old moment event outs new (made_happens outs new made_state) address
+        order.own holds;
+    texts = texts;
+  }
 
   pub made_order : (outs : List Out) (new : Router) → PartHappens old moment p outs new
       → IsConsistent old → IsConsistent new

@@ -6,6 +6,7 @@ ghost use Rattle.event_rules.specs.Refusals.{RefusesByRules, exceeds, is_interfa
 ghost use Rattle.area.specs.Drafted.{nothing_at};
 ghost use Rattle.invariants.specs.InOrder.{IsConsistent};
 ghost use Rattle.invariants.specs.Keeping.{HasNumbersInRange, KeepsWhatIsKnown};
+ghost use Rattle.invariants.specs.LawfulSends.{SendsLawfully};
 ghost use Rattle.flood.specs.Early.{early_refusal};
 ghost use Rattle.flood.specs.Occurrences.{occurrence_of};
 ghost use Rattle.flood.specs.Offers.{AreKeptNow, WalkStaysUnlessChanged};
@@ -79,6 +80,8 @@ pub fn process_event(
     ensures ok { IfOk result (λ outs. Happens router.old.present moment (occurrence_of event.now)
         outs.items router.new.present) }
     ensures keeps { IfOk result (λ outs. KeepsWhatIsKnown router.old.present moment
+        (occurrence_of event.now) outs.items router.new.present) }
+    ensures lawful { IfOk result (λ outs. SendsLawfully router.old.present moment
         (occurrence_of event.now) outs.items router.new.present) }
     ensures order { OnOk result (IsConsistent router.new.present) }
     ensures holds { OnOk result (HasNumbersInRange router.new.present) }

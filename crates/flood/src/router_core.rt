@@ -7,6 +7,7 @@ ghost use Rattle.event_rules.specs.Originations.{external_key};
 ghost use Rattle.event_rules.specs.Refusals.{RefusesByRules};
 ghost use Rattle.event_rules.specs.Routers.{in_profile, shown_at};
 ghost use Rattle.invariants.specs.Keeping.{KeepsWhatIsKnown};
+ghost use Rattle.invariants.specs.LawfulSends.{SendsLawfully};
 ghost use Rattle.flood.specs.Early.{early_refusal};
 ghost use Rattle.flood.specs.Offers.{AreCandidatesNow, IsOffered, IsStaleNow, IsTableNow};
 ghost use Rattle.flood.specs.Occurrences.{occurrence_of};
@@ -132,6 +133,10 @@ impl Core {
         // Update, or is a new one of its own. If an instance is removed from a retransmission list
         // as acknowledged, the event's packet from that neighbor says so.
         ensures keeps { IfOk result (λ outs. KeepsWhatIsKnown self.old moment
+            (occurrence_of event.now) outs.items self.new) }
+        // Instances that are sent have numbers in their ranges, and packets are encoded as texts:
+        // what the laws on two neighbors suppose of a router.
+        ensures lawful { IfOk result (λ outs. SendsLawfully self.old moment
             (occurrence_of event.now) outs.items self.new) }
         // Which refusal it is; none applies if the event is accepted.
         ensures refused { RefusesByRules self.old moment (occurrence_of event.now) result }

@@ -339,6 +339,11 @@ module _ (old : Router) (moment : ℕ) (event : Occurrence) (outs : List Out) (n
           announced = l.announced;
         })
 
+    pub sends_in_range : AllByRecursion IsIdentityInRange (instances_in_sends p.sends)
+    sends_in_range =
+        right_all IsIdentityInRange (instances_stored p.router) (instances_in_sends p.sends)
+        leaves.holds
+
     module _ (order : IsConsistent old) where
       abbrev New : InstanceIdentity → Type 0
       New name = IsNewInstance old moment event new name

@@ -5,6 +5,7 @@ pub mod Worlds
 pub mod Known
 pub mod Keeping
 pub mod Lawful
+pub mod LawfulSends
 pub mod NeighborLaws
 pub mod LimitLaws
 pub mod Retransmissions

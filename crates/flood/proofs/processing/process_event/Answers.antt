@@ -13,6 +13,7 @@ use Rattle.flood.proofs.Answering.{clock_is_on}
 use Rattle.flood.proofs.Early.{first_is_late, none_of_event}
 use Rattle.flood.proofs.Happening.{made_answers, made_happens, made_has_room, made_holds, made_id}
 use Rattle.flood.proofs.Happening.{made_keeps, made_order}
+use Rattle.flood.proofs.Happening.{made_lawful}
 use Rattle.flood.proofs.Made.{few_drafts, if_ok, if_ok_with, made_drafts, made_router, made_sent}
 use Rattle.flood.proofs.Made.{made_whole, ok_if, on_ok, stays_within}
 use Rattle.flood.proofs.Refusing.{event_answers}
@@ -174,6 +175,32 @@ returns-clause-keeps c =
     if_ok_with c.pack_and_update_routes.result
     (λ outs sent texts.
     made_keeps old.present c.args.moment event c.in_ok-part.part c.in_ok-part.ensures.part
+    outs.items new
+    (made_sent old c.end_event.new.router new c.in_ok-drafts.drafts.items c.args.moment
+    c.in_ok-part.part whole c.requires.drafted is c.in_ok-drafts.ensures.drafts c.id-own.result
+    outs.items c.id-own.ensures sent)
+    c.read_part.ensures.address c.requires.order c.requires.holds
+    (subst (λ own. AreTexts own old.present.area.links sends) c.id-own.ensures texts))
+    (c.pack_and_update_routes.ensures.outs old.present.area.links sends are)
+    (c.pack_and_update_routes.ensures.texts old.present.area.links sends are)
+
+pub returns-clause-lawful : goal.returns-clause-lawful
+returns-clause-lawful c =
+    let old = c.args.router.now in
+    let event = occurrence_of c.args.event.now in
+    let whole = made_whole old c.flood_aged.new.self c.apply_part.new.router c.end_event.new.router
+    c.args.moment c.in_ok-part.part c.requires.committed c.in_ok-flood_aged.ensures.makes
+    c.in_ok-apply_part.ensures.makes c.in_ok-end_event.ensures.makes in
+    let new = c.take_drafts.new.self.present in
+    let is = ap (λ (r : KeptRouter). r.present) c.in_ok-drafts.ensures.rest in
+    let room = made_has_room old.present c.args.moment event c.in_ok-part.part
+    c.in_ok-part.ensures.part c.requires.roomy in
+    let are = made_drafts old c.end_event.new.router new c.in_ok-drafts.drafts.items c.args.moment
+    c.in_ok-part.part whole c.requires.drafted is c.in_ok-drafts.ensures.drafts room in
+    let sends = (made_state old.present c.args.moment c.in_ok-part.part).sends in
+    if_ok_with c.pack_and_update_routes.result
+    (λ outs sent texts.
+    made_lawful old.present c.args.moment event c.in_ok-part.part c.in_ok-part.ensures.part
     outs.items new
     (made_sent old c.end_event.new.router new c.in_ok-drafts.drafts.items c.args.moment
     c.in_ok-part.part whole c.requires.drafted is c.in_ok-drafts.ensures.drafts c.id-own.result
