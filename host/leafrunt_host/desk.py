@@ -4,8 +4,8 @@ from __future__ import annotations
 
 import json
 import logging
-import re
 import threading
+import time
 from collections.abc import Callable
 from ipaddress import IPv4Address, IPv4Network
 
@@ -17,6 +17,8 @@ from leafrunt_host.capture import Capture
 from leafrunt_host.documents import database_of
 from leafrunt_host.journal import Kept, where_it_failed
 from leafrunt_host.kernel import KernelRoute, kernel_route
+from leafrunt_host.observing import Limiter
+from leafrunt_host.programs import attached
 from leafrunt_host.router import Router, RouterGone
 from leafrunt_host.server import Answer, Asked
 from leafrunt_host.status import Known, neighbors_of, status_lines, status_of
@@ -27,7 +29,10 @@ log = logging.getLogger("leafrunt.console")
 LOG_LINES = 40
 OF_PROGRAMS = ("attach", "detach")
 OF_ANNOUNCEMENTS = ("add", "withdraw")
-ATTACHED = re.compile(r"attached (\w+) bound (\d+)")
+CHANGING = (*OF_PROGRAMS, *OF_ANNOUNCEMENTS, "capture", "reload", "down")
+"""What lines that change something begin with: the log has them."""
+MOST_LOGGED = 100
+"""Lines of a minute with the same first word that it has."""
 
 
 class Refused(Exception):
@@ -46,10 +51,13 @@ class Desk:
         topology: Topology,
         log: Kept,
         end: Callable[[], None],
+        wake: Callable[[], None] = lambda: None,
     ) -> None:
+        """`wake` has `routerd`'s table looked at soon."""
         self._known, self._router, self._bridge = known, router, bridge
         self._announcements = announcements
-        self._topology, self._log, self._end = topology, log, end
+        self._topology, self._log, self._end, self._wake = topology, log, end, wake
+        self._limits = {word: Limiter(MOST_LOGGED) for word in CHANGING}
         self.changing = threading.Lock()
         """Is held while a program is attached or detached, or a capture begins or ends."""
         self._capture: Capture | None = None
@@ -72,6 +80,16 @@ class Desk:
 
     def answer(self, asked: Asked) -> Answer:
         """The answer to a line: of a list the last line is `end`, as `routerd`'s are."""
+        answer = self._answer(asked)
+        limit = self._limits.get(asked.line.partition(" ")[0])
+        if limit:
+            said = answer.lines[-2] if answer.lines[-1:] == ["end"] else answer.lines[0]
+            line = f"console: {asked.line}: {said} (by {asked.by})"
+            for each in limit.passing("console", [line], time.monotonic()):
+                log.info("%s", each)
+        return answer
+
+    def _answer(self, asked: Asked) -> Answer:
         word, _, rest = asked.line.partition(" ")
         try:
             if word in self._own:
@@ -83,7 +101,7 @@ class Desk:
             if asked.line == "down":
                 self._end()
                 return Answer(["ending"], stays=True)
-            return Answer(self.passed_on(asked.line))
+            return Answer(self.passed_on(asked.line, asked.by))
         except (Refused, Stopped) as why:
             return Answer([f"refused: {why}"])
         except RouterGone as why:
@@ -101,34 +119,34 @@ class Desk:
             word = REFUSED if why.status == Status.REFUSED else FAILED
             return [f"{word}{each}" for each in str(why).splitlines()]
 
-    def passed_on(self, line: str, is_by_hand: bool = True) -> list[str]:
+    def passed_on(self, line: str, by: str = "") -> list[str]:
         """`routerd`'s answer, as it is. What it changes is noted, in the order in which `routerd`
-        was asked, and whether somebody at a console did it."""
+        was asked, and who did it at a console; and the kernel's table follows at once."""
         word = line.partition(" ")[0]
         if word == "quit":
             return ["unknown"]
         if word in OF_ANNOUNCEMENTS:
-            return [self._announcements.by_hand(line)]
+            answer = [self._announcements.by_hand(line)]
+            self._wake()
+            return answer
         if word not in OF_PROGRAMS:
             return self._router.ask(line)
         with self.changing:
             answer = self._router.ask(line)
-            self._note(line, answer[0], is_by_hand)
+            self._note(line, answer[0], by)
+            self._wake()
             return answer
 
-    def _note(self, line: str, answer: str, is_by_hand: bool) -> None:
-        attached = ATTACHED.fullmatch(answer)
-        if attached:
-            path = line.partition(" ")[2]
-            self._known.programs = {**self._known.programs, attached[1]: (path, int(attached[2]))}
-            others = self._known.by_hand - {attached[1]}
-            self._known.by_hand = others | ({attached[1]} if is_by_hand else set())
+    def _note(self, line: str, answer: str, by: str) -> None:
+        self._known.programs = {
+            **self._known.programs,
+            **attached(answer, line.partition(" ")[2], by),
+        }
         if answer.startswith("detached "):
             hook = answer.partition(" ")[2]
             self._known.programs = {
                 each: said for each, said in self._known.programs.items() if each != hook
             }
-            self._known.by_hand -= {hook}
 
     # -- words of the box's own
 
@@ -170,8 +188,8 @@ class Desk:
     def _programs(self, rest: str) -> list[str]:
         none_after("programs", rest)
         return [
-            f"{hook} bound {bound} {path}"
-            for hook, (path, bound) in sorted(self._known.programs.items())
+            f"{hook} bound {it.bound} {it.object}"
+            for hook, it in sorted(self._known.programs.items())
         ]
 
     def _database(self, rest: str) -> list[str]:

@@ -14,12 +14,13 @@ from leafrunt_host import bfd_session
 from leafrunt_host.announcements import TAKEN, Announced, Announcements
 from leafrunt_host.bridge import CannotOpen
 from leafrunt_host.configuration import Configuration
-from leafrunt_host.desk import ATTACHED, Desk
+from leafrunt_host.desk import Desk
 from leafrunt_host.isolation import CannotIsolate
 from leafrunt_host.journal import where_it_failed
 from leafrunt_host.keeper import Keeper
 from leafrunt_host.link import Interface, Link
 from leafrunt_host.packets import Hello, Packet
+from leafrunt_host.programs import Attached, attached
 from leafrunt_host.rehearsal import Rehearsal, prefixes_of
 from leafrunt_host.router import Router, RouterGone
 from leafrunt_host.sockets import Place
@@ -60,7 +61,7 @@ class Kept:
 class Prepared:
     """What the new one has: programs by their hooks, each with its bound, and destinations."""
 
-    programs: dict[str, tuple[str, int]]
+    programs: dict[str, Attached]
     given: dict[IPv4Network, Announced]
 
 
@@ -197,24 +198,28 @@ class Handover:
 
     def _prepared(self, router: Router, programs: dict[str, str]) -> Prepared:
         """Attaches the programs and announces all destinations."""
-        attached, given = {}, {}
+        found: dict[str, Attached] = {}
+        given = {}
         for path in programs.values():
             answer = router.ask(f"attach {path}")[0]
-            read = ATTACHED.fullmatch(answer)
-            if read is None:
+            its = attached(answer, path)
+            if not its:
                 raise Stopped(f"{path}: {answer}")
-            attached[read[1]] = path, int(read[2])
+            for hook, it in its.items():
+                before = self.known.programs.get(hook)
+                is_same = before is not None and before.object == path
+                found[hook] = it._replace(by=before.by, at=before.at) if is_same else it
         for prefix, it in dict(self.known.announced).items():
             answer = router.ask(it.announcement.line())[0]
             if answer in TAKEN:
                 given[prefix] = it._replace(answer=answer)
-        return Prepared(attached, given)
+        return Prepared(found, given)
 
     def _is_to_find_all(self, new: Configuration, programs: dict[str, str]) -> bool:
         """Whether it has to have the same destinations: the same interfaces and programs."""
         old = self.known.configuration
         names = [[each.name for each in one.interfaces] for one in (old, new)]
-        before = {hook: path for hook, (path, _) in self.known.programs.items()}
+        before = {hook: it.object for hook, it in self.known.programs.items()}
         return names[0] == names[1] and programs == before and bool(self.known.neighbors)
 
     def _swap(

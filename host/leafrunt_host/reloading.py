@@ -136,7 +136,7 @@ class Reloader:
         said: list[str] = []
 
         def programs() -> dict[str, str]:
-            found = {hook: path for hook, (path, _) in self.known.programs.items()}
+            found = {hook: it.object for hook, it in self.known.programs.items()}
             for hook in sorted(before | after):
                 program = after.get(hook)
                 if program == before.get(hook) or hook in self.known.by_hand:
@@ -275,10 +275,10 @@ class Reloader:
 
     def _program(self, hook: str, program: Program | None) -> str:
         if hook in self.known.by_hand:
-            path, _ = self.known.programs[hook]
+            path = self.known.programs[hook].object
             return f"{hook}: {path}, which was attached by hand, stays"
         line = f"attach {program.object}" if program else f"detach {hook}"
-        said = self.desk.passed_on(line, is_by_hand=False)[0]
+        said = self.desk.passed_on(line)[0]
         return f"{program.object if program else hook}: {said}"
 
 

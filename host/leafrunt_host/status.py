@@ -18,6 +18,7 @@ from leafrunt_host.kernel import Json
 from leafrunt_host.link import Link
 from leafrunt_host.observing import Adjacencies
 from leafrunt_host.owed import Debts
+from leafrunt_host.programs import Attached
 from leafrunt_host.refusals import Refusal
 from leafrunt_host.rtnetlink import MAIN
 from leafrunt_host.table_changes import MOST_KEPT, TableChange, change_document
@@ -77,10 +78,8 @@ class Known:
     neighbors: dict[int, Neighbor] = field(default_factory=dict)
     announced: dict[IPv4Network, Announced] = field(default_factory=dict)
     """The destinations that `routerd` has taken."""
-    programs: dict[str, tuple[str, int]] = field(default_factory=dict)
-    """By hook the object file and the bound."""
-    by_hand: frozenset[str] = frozenset()
-    """The hooks of those that were attached at the console."""
+    programs: dict[str, Attached] = field(default_factory=dict)
+    """Those at the hooks."""
     kept: Kept = field(default_factory=Kept)
     stopped: tuple[str, ...] = ()
     """Interfaces that `routerd` serves no longer."""
@@ -96,6 +95,11 @@ class Known:
     """What changed last of `routerd`'s table, and when."""
     looked: float | None = None
     """When the keeper's last look ended, by the clock that nobody sets."""
+
+    @property
+    def by_hand(self) -> frozenset[str]:
+        """The hooks of programs that were attached at the console."""
+        return frozenset(hook for hook, it in self.programs.items() if it.by)
 
     def told(self, line: str) -> None:
         """A line of `routerd` on its standard error."""

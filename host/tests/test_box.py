@@ -4,6 +4,7 @@ import contextlib
 import errno
 import io
 import os
+import pwd
 import shutil
 import signal
 import socket
@@ -161,9 +162,9 @@ class Consoles(Boxes):
         self.up(more='[[announce]]\nprefix = "203.0.113.0/24"\n')
         for each in (
             self.lines,
-            self.two_at_once,
             self.noted,
             self.own_words,
+            self.two_at_once,
             self.long_and_odd_lines,
             self.one_that_goes_away,
             self.captures,
@@ -234,6 +235,12 @@ class Consoles(Boxes):
         self.assertEqual(other.ask("programs"), ["veto bound 7 /x/veto.o", "end"])
         self.assertEqual(client.ask("detach veto"), ["detached veto"])
         self.assertEqual(other.ask("programs"), ["end"])
+        logged = [each.partition("info: ")[2] for each in client.ask("log 2")[:-1]]
+        who = pwd.getpwuid(os.geteuid()).pw_name
+        self.assertRegex(
+            logged[0], rf"^console: attach /x/veto\.o: attached veto bound 7 \(by (\w+ as )?{who}\)$"
+        )
+        self.assertTrue(logged[1].startswith("console: detach veto: detached veto (by "))
 
     def own_words(self) -> None:
         client = self.client()

@@ -12,12 +12,14 @@ from collections import Counter
 from dataclasses import dataclass, field, replace
 from ipaddress import IPv4Address, IPv4Interface, IPv4Network
 from pathlib import Path
+from types import SimpleNamespace
 from unittest import mock
 
 from leafrunt_host import capture as captures
 from leafrunt_host.announcements import Announced
 from leafrunt_host.capture import MOST_WAITING, Capture
 from leafrunt_host.configuration import Configuration, InterfaceSettings
+from leafrunt_host.desk import Desk
 from leafrunt_host.destinations import Announcement
 from leafrunt_host.exchange import Side
 from leafrunt_host.journal import Kept as KeptLog
@@ -27,6 +29,7 @@ from leafrunt_host.observing import Adjacencies, Report
 from leafrunt_host.owed import Owed
 from leafrunt_host.packets import lsas_of
 from leafrunt_host.router import LONGEST_LINE, Router, RouterGone
+from leafrunt_host.server import Asked, who_is
 from leafrunt_host.status import (
     Kept,
     Known,
@@ -191,6 +194,64 @@ class Statuses(unittest.TestCase):
             net = IPv4Network(prefix)
             it.announced[net] = Announced(Announcement(net, 1, 2, 0), answer)
         self.assertEqual(originated(it), frozenset([IPv4Network("10.0.0.0/8")]))
+
+
+class Lines(unittest.TestCase):
+    """What lines at the console do beside their answers."""
+
+    def setUp(self) -> None:
+        self.known, self.woken = known(), list[str]()
+        self.answers = {"attach /v.o": "attached veto bound 5", "add 10.0.0.0/8 1 2 0": "originated"}
+        router = SimpleNamespace(ask=lambda line: [self.answers.get(line, "unknown")])
+        announcements = SimpleNamespace(by_hand=lambda line: self.answers.get(line, "refused 5"))
+        parts = (self.known, router, announcements, None, None, KeptLog())
+        self.desk = Desk(*parts, end=lambda: None, wake=lambda: self.woken.append("woken"))
+
+    def test_the_kernels_table_follows_at_once(self) -> None:
+        for count, line in enumerate(("attach /v.o", "add 10.0.0.0/8 1 2 0", "detach veto"), 1):
+            self.desk.answer(Asked(line))
+            self.assertEqual(len(self.woken), count, line)
+        self.desk.answer(Asked("counters"))
+        self.assertEqual(len(self.woken), 3)
+
+    def test_what_is_logged(self) -> None:
+        with self.assertLogs("leafrunt.console", "INFO") as logged:
+            for line in ("attach /v.o", "counters", "add 1.2.3.0/24 1 2 0", "capture"):
+                self.desk.answer(Asked(line, by="alice as root"))
+        said = [each.partition("console:")[2].partition("console: ")[2] for each in logged.output]
+        self.assertEqual(
+            said,
+            [
+                "attach /v.o: attached veto bound 5 (by alice as root)",
+                "add 1.2.3.0/24 1 2 0: refused 5 (by alice as root)",
+                "capture: refused: after `capture` comes a new file's path, or `off` (by alice as root)",
+            ],
+        )
+
+    def test_a_script_fills_no_log(self) -> None:
+        with self.assertLogs("leafrunt.console", "INFO") as logged:
+            for _ in range(5000):
+                self.desk.answer(Asked("withdraw 10.0.0.0/8"))
+        self.assertEqual(len(logged.output), 100)
+
+    def test_who_attached_it_and_when(self) -> None:
+        self.desk.answer(Asked("attach /v.o", by="root"))
+        it = self.known.programs["veto"]
+        self.assertEqual((it.object, it.bound, it.origin), ("/v.o", 5, "at the console by root"))
+        self.assertAlmostEqual(it.at, time.time(), delta=5)
+        self.assertEqual(self.known.by_hand, {"veto"})
+        self.desk.passed_on("attach /v.o")
+        self.assertEqual(self.known.programs["veto"].origin, "by the configuration")
+        self.assertEqual(self.known.by_hand, frozenset())
+
+    def test_whose_login_it_is(self) -> None:
+        with tempfile.TemporaryDirectory() as folder:
+            (Path(folder) / "7").mkdir()
+            login = Path(folder) / "7" / "loginuid"
+            for said, wanted in (("4294967295", "root"), ("0", "root"), ("1", "daemon as root")):
+                login.write_text(said)
+                self.assertEqual(who_is(7, 0, Path(folder)), wanted)
+        self.assertEqual(who_is(8, 3_999_999_999, Path(folder)), "3999999999")
 
 
 class Captures(unittest.TestCase):

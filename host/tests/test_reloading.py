@@ -38,6 +38,7 @@ from leafrunt_host.handover import Handover, Prepared
 from leafrunt_host.isolation import Account
 from leafrunt_host.redistribution import Redistribution, Source
 from leafrunt_host.kernel_settings import KernelSettings
+from leafrunt_host.programs import Attached
 from leafrunt_host.reloading import Reloader, claims_of
 from leafrunt_host.rooms import Room
 from leafrunt_host.router import RouterGone
@@ -464,7 +465,7 @@ class Fakes:
         self.did.append(("kept", self.kernel))
         return True
 
-    def passed_on(self, line: str, is_by_hand: bool) -> list[str]:
+    def passed_on(self, line: str) -> list[str]:
         self.fails()
         self.did.append(line)
         return [self.answer]
@@ -676,7 +677,7 @@ class Taking(unittest.TestCase):
         one, two = configuration().interfaces
         files = {hook: Program(Path(f"/{hook}.o"), hook, "1") for hook in ("veto", "tag", "price")}
         it = self.fakes(configuration(one, two, programs=tuple(files.values())))
-        it.known.programs = {"veto": ("/by/hand.o", 7), "tag": ("/tag.o", 7)}
+        it.known.programs = {"veto": Attached("/by/hand.o", 7, "root"), "tag": Attached("/tag.o", 7)}
         it.known.by_hand = frozenset({"veto"})
         files["veto"] = Program(Path("/other.o"), "veto", "1")
         files["count"] = Program(Path("/count.o"), "count", "1")
