@@ -261,7 +261,7 @@ class Link:
     def from_wire(self, data: bytes, source: IPv4Address, now: float) -> Sent:
         """An OSPF packet that came in by IP, to an address and from one that count."""
         with self._lock:
-            packet = self.authentication.judged(data, now)
+            packet = self.authentication.judged(data, source, now)
             if isinstance(packet, Refused):
                 self._refused(data, source, packet, now)
                 return Sent()
@@ -283,14 +283,14 @@ class Link:
         else:
             sent = Sent(to_router=[part.encode() for part in cut(packet, ROUTER_MTU)])
         if packet.type == PacketType.HELLO:
-            self._heard_hello(packet, source)
+            self._heard_hello(packet, source, now)
         self.counters["in"] += 1
         self._tracer.received(packet, source, now)
         if self._watch and self._is_neighbor(packet.router_id):
             self._watch(Side.WIRE, packet, now)
         return sent
 
-    def _heard_hello(self, packet: Packet, source: IPv4Address) -> None:
+    def _heard_hello(self, packet: Packet, source: IPv4Address, now: float) -> None:
         """Keeps the address and the last Hello of those that may be the neighbor."""
         observer = self.observer
         if not observer.agrees(packet):
@@ -298,7 +298,12 @@ class Link:
         for each in [each for each in self._next_hops if each not in observer.taken]:
             del self._next_hops[each]
         if packet.router_id in observer.taken:
+            before = self._next_hops.get(packet.router_id, source)
             self._next_hops[packet.router_id] = source
+            if before != source and self._is_neighbor(packet.router_id):
+                moved = f"{packet.router_id} sends from {source} now, and not from {before}"
+                said = f"{self.interface.name}: {moved}: packets go there"
+                self._tell([said], now, logging.WARNING)
         self._first = self._first or packet.router_id
         if self._is_neighbor(packet.router_id):
             self._hello = packet
@@ -472,7 +477,10 @@ class Link:
                 self._mtu = mtu_field(state.mtu)
                 self.observer.set_mtu(self._mtu)
                 self._exchange.wire_room = headers_that_fit(self._limit)
-            return self._one_way() if was_usable and not self.is_usable else Sent()
+            if self.is_usable or not was_usable:
+                return Sent()
+            self.authentication.link_lost()
+            return self._one_way()
 
     @property
     def index(self) -> int:

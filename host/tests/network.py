@@ -237,6 +237,16 @@ class Network:
             run("ip", "-n", wires, "link", "set", wire, "master", f"br{self._bridges}", "up")
         return self._bridges
 
+    def join(self, number: int, end: End) -> None:
+        """One more interface at that bridge."""
+        wires, wire = self.name("wires"), f"b{number}{end.interface}"
+        run(
+            *("ip", "link", "add", end.interface, "netns", end.namespace, "type"),
+            *("veth", "peer", "name", wire, "netns", wires),
+        )
+        self._up(end)
+        run("ip", "-n", wires, "link", "set", wire, "master", f"br{number}", "up")
+
     def silence(self, number: int, is_silent: bool = True) -> None:
         """Nothing passes that bridge, and both ends keep their carrier; or it passes again."""
         words = ("nomaster",) if is_silent else ("master", f"br{number}")

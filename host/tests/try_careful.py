@@ -1,0 +1,114 @@
+"""Somebody on a link who has no key, or no more than a neighbor has. See `try-network`."""
+from __future__ import annotations
+
+import subprocess
+import sys
+import time
+from collections.abc import Callable
+from dataclasses import replace
+
+from tests.network import (
+    COMES_UP,
+    HOST,
+    MD5,
+    SHA,
+    Bfd,
+    Bird,
+    Box,
+    End,
+    Frr,
+    Secret,
+    Side,
+    Try,
+    is_full,
+    output,
+    within,
+)
+
+BEHIND = "172.16.2.0/24"
+"""A network behind 2.2.2.2."""
+NEIGHBOR, ATTACKER = "10.0.1.2", "10.0.1.66"
+
+
+class Shared:
+    """1.1.1.1 and its neighbor 2.2.2.2 on a link with keys, where somebody without them is too."""
+
+    def __init__(
+        self, given: Try, kind: str, length: int = 24, key: Secret = SHA, bfd: Bfd | None = None
+    ) -> None:
+        self.network = network = given.network
+        own, far, self.by = (network.namespace(each) for each in ("own", "far", "by"))
+        ends = (End(own, "eth1", f"10.0.1.1/{length}"), End(far, "eth1", f"{NEIGHBOR}/{length}"))
+        number = network.bridged(*ends)
+        network.join(number, End(self.by, "eth1", f"{ATTACKER}/24"))
+        network.link(End(far, "eth2", "172.16.2.1/24"), End(self.by, "eth2", "172.16.2.9/24"))
+        side = Side("eth1", (key,), bfd=bfd)
+        self.neighbor = Bird(network, far, "2.2.2.2", [side, Side("eth2", is_passive=True)])
+        makes: dict[str, Callable[..., Box | Bird | Frr]] = {"BIRD": Bird, "FRR": Frr}
+        self.tried: Box | Bird | Frr
+        if kind == "a box":
+            self.tried = Box(network, given.routerd, own, "tried", "1.1.1.1", [side])
+        else:
+            self.tried = makes[kind](network, own, "1.1.1.1", [side])
+            self.tried.folder = network.work / "tried"
+            self.tried.folder.mkdir()
+
+    def start(self) -> bool:
+        self.tried.start()
+        self.neighbor.start()
+        return within(COMES_UP, lambda: is_full(self.tried, "2.2.2.2") and self.hop()) is not None
+
+    def stop(self) -> None:
+        self.tried.stop()
+        self.neighbor.stop()
+
+    def hop(self) -> str:
+        """The next hop to the network behind the neighbor, in the kernel's table."""
+        words = output("ip", "-n", self.tried.namespace, "route", "show", BEHIND).split()
+        return words[words.index("via") + 1] if "via" in words else ""
+
+    def again(self, source: str, seconds: float) -> subprocess.Popen[str]:
+        """Somebody begins to repeat the neighbor's packets from that source."""
+        words = [sys.executable, str(HOST / "tests" / "attack.py"), "again", source, f"{seconds}"]
+        log = self.network.work / "attack"
+        return self.network.start(self.by, words, log, stdout=subprocess.PIPE)
+
+    def strays(self, source: str, seconds: float) -> tuple[int, int, str]:
+        """How many looks at the kernel's table there were meanwhile, at how many the next hop wasn't
+        the neighbor, and what was sent."""
+        attack, looks, strays = self.again(source, seconds), 0, 0
+        while attack.poll() is None:
+            looks, strays = looks + 1, strays + (self.hop() != NEIGHBOR)
+            time.sleep(0.1)
+        return looks, strays, attack.communicate()[0].strip()
+
+
+def sources(given: Try) -> None:
+    """On a link with keys somebody without them repeats each packet of the neighbor from another
+    source, also one that no host has, and with BFD: no next hop moves. BIRD and FRR beside it."""
+    for kind, length, source, bfd in (
+        ("a box", 24, ATTACKER, None),
+        ("a box", 30, "10.0.1.0", None),
+        ("a box", 30, "10.0.1.3", None),
+        ("a box", 24, ATTACKER, Bfd()),
+        ("BIRD", 24, ATTACKER, None),
+        ("FRR", 24, ATTACKER, None),
+    ):
+        given.anew(lambda: repeated(given, kind, length, source, bfd))
+
+
+def repeated(given: Try, kind: str, length: int, source: str, bfd: Bfd | None) -> None:
+    looks, key = given.looks, MD5 if kind == "FRR" else SHA
+    it = Shared(given, kind, length, key, bfd)
+    what = f"{kind} with {key.algorithm}{', BFD' * bool(bfd)} at a /{length}, repeated from {source}"
+    looks.look(f"{what}: Full, with a route, before", it.start())
+    count, strays, sent = it.strays(source, 12)
+    measured = f"{strays} of {count} looks, {sent}"
+    if kind != "a box":
+        print(f"     {what}: the next hop wasn't the neighbor at {measured}")
+    else:
+        looks.look("the neighbor stays the next hop", count and not strays, measured)
+        status = "\n".join(it.tried.status().splitlines()) if isinstance(it.tried, Box) else ""
+        is_told = "another source" in status or "strange source" in status
+        looks.look("and Full; `leafrunt status` tells", is_full(it.tried, "2.2.2.2") and is_told)
+    it.stop()
