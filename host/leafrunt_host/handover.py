@@ -253,7 +253,7 @@ class Handover:
             self.parts.router, self.parts.links = fresh.router, links | made
             self.parts.sinks, self.parts.ports = fresh.sinks, fresh.ports
             follow_numbers(self.known, new)
-            self.parts.bridge.send_of_router(rehearsal.last_packets)
+            self.parts.bridge.send_of_router(rehearsal.last_packets(full))
             for number in rehearsal.numbers - full:
                 self.parts.bridge.neighbor_lost(number)
 

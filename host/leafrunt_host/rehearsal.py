@@ -13,12 +13,13 @@ import selectors
 import threading
 import time
 from collections import deque
-from collections.abc import Callable, Iterable, Mapping
+from collections.abc import Callable, Container, Iterable, Mapping
 from contextlib import suppress
+from dataclasses import replace
 from ipaddress import IPv4Address
 
 from leafrunt_host.lsas import INSTANCE, MAX_AGE, LinkType, LsType, RouterBody, body_of
-from leafrunt_host.packets import Malformed, Packet, PacketType, lsas_of, read
+from leafrunt_host.packets import Hello, Malformed, Packet, PacketType, lsas_of, read
 from leafrunt_host.proxy import KEY, ORIGIN, Key, Proxy
 from leafrunt_host.router import RouterGone
 from leafrunt_host.starting import Fresh
@@ -165,14 +166,23 @@ class Rehearsal:
         """The interfaces whose neighbor is played by a proxy."""
         return set(self._proxies)
 
-    @property
-    def last_packets(self) -> dict[int, list[bytes]]:
-        """What is to be sent on the wire first: its Updates, and then a Hello."""
+    def last_packets(self, full: Container[int]) -> dict[int, list[bytes]]:
+        """What is to be sent on the wire first: its Updates, and then a Hello, which names the
+        neighbors that are Full."""
         return {
-            number: [*self.sent[number], self._hellos[number]]
-            for number in self.sent
-            if number in self._hellos
+            number: [*self.sent[number], self._naming(number) if number in full else hello]
+            for number, hello in self._hellos.items()
         }
+
+    def _naming(self, number: int) -> bytes:
+        """Its last Hello there, which may be older than the neighbor's first: without its name the
+        neighbor would go to Init (RFC 2328, 10.5, 1-WayReceived)."""
+        packet, neighbor = read(self._hellos[number]), self._proxies[number].router_id
+        hello = Hello.decode(packet.body)
+        if neighbor in hello.neighbors:
+            return self._hellos[number]
+        named = replace(hello, neighbors=(*hello.neighbors, neighbor))
+        return replace(packet, body=named.encode()).encode()
 
     # -- its packets
 

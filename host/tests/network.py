@@ -14,7 +14,7 @@ import subprocess
 import sys
 import tempfile
 import time
-from collections.abc import Callable, Iterable
+from collections.abc import Callable, Iterable, Iterator
 from contextlib import closing
 from dataclasses import dataclass, field
 from datetime import datetime
@@ -36,6 +36,33 @@ HELLO_INTERVAL, DEAD_INTERVAL, RETRANSMIT_INTERVAL = 2, 8, 2
 TOTAL_SECONDS = 60
 COMES_UP = 40
 """Seconds within which a router comes to Full here: two router-LSAs are five seconds apart."""
+
+
+@dataclass
+class Timers:
+    """HelloInterval and RouterDeadInterval, where nobody names others."""
+
+    hello: int = HELLO_INTERVAL
+    dead: int = DEAD_INTERVAL
+
+    @property
+    def comes_up(self) -> int:
+        """Seconds within which a router comes to Full."""
+        return COMES_UP + 3 * (self.hello - HELLO_INTERVAL)
+
+    @contextlib.contextmanager
+    def at(self, hello: int) -> Iterator[None]:
+        """Others for a while: this HelloInterval, and a RouterDeadInterval of four of them."""
+        before = self.hello, self.dead
+        self.hello, self.dead = hello, 4 * hello
+        try:
+            yield
+        finally:
+            self.hello, self.dead = before
+
+
+TIMERS = Timers()
+"""What a part of `try-network` is played with."""
 
 
 class CannotTry(Exception):
@@ -144,8 +171,8 @@ class Side:
 
     name: str
     keys: tuple[Secret, ...] = ()
-    hello: int = HELLO_INTERVAL
-    dead: int = DEAD_INTERVAL
+    hello: int = field(default_factory=lambda: TIMERS.hello)
+    dead: int = field(default_factory=lambda: TIMERS.dead)
     is_passive: bool | None = None
     """None says nothing of it, where that differs."""
     cost: int = 10

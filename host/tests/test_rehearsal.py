@@ -289,10 +289,26 @@ class Rehearsals(unittest.TestCase):
         it.find(lambda: {"10.0.1.0/24"})
         with self.assertRaises(Stopped):
             it.find(lambda: {"10.9.9.0/24"})
-        self.assertEqual(it.last_packets, {1: [own, hello]})
+        self.assertEqual(it.last_packets(()), {1: [own, hello]})
         for _ in range(3 * rehearsal.MOST_SENT):
             it._took(1, own)
-        self.assertEqual(len(it.last_packets[1]), rehearsal.MOST_SENT + 1)
+        self.assertEqual(len(it.last_packets(())[1]), rehearsal.MOST_SENT + 1)
+
+    def test_its_last_hello_names_who_is_full(self) -> None:
+        """Where HelloInterval is longer than all of this, its last one is its first, which names
+        nobody."""
+        it, first = self.begin(1, 2), Hello.decode(plain("BIRD Hello").body)
+        for number, names in ((1, ()), (2, (LOW,))):
+            body = replace(first, neighbors=names).encode()
+            self.routers[number].send(of_router(PacketType.HELLO, body).encode())
+        it.come_to_full()
+        it.find(lambda: {"10.0.1.0/24"})
+        for full, wanted in (({1, 2}, [(HIGH,), (LOW,)]), ({2}, [(), (LOW,)])):
+            last = it.last_packets(full)
+            hellos = [Hello.decode(read(last[each][-1]).body) for each in (1, 2)]
+            self.assertEqual([each.neighbors for each in hellos], wanted)
+            others = [replace(each, neighbors=first.neighbors) for each in hellos]
+            self.assertEqual(others, [first, first])
 
     def test_ends(self) -> None:
         """Of the box, and of the new `routerd`."""

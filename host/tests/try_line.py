@@ -10,11 +10,10 @@ from datetime import datetime, timedelta
 from pathlib import Path
 
 from tests.network import (
-    COMES_UP,
-    DEAD_INTERVAL,
     HOST,
     MD5,
     SHA,
+    TIMERS,
     Announce,
     Bird,
     Box,
@@ -44,9 +43,9 @@ class Line:
         mtu: int = 1500,
         has_keys: bool = False,
         is_wired: bool = False,
-        dead: int = DEAD_INTERVAL,
+        dead: int | None = None,
     ) -> None:
-        self.network = given.network
+        self.network, dead = given.network, dead or TIMERS.dead
         bird, box, frr = (self.network.namespace(each) for each in ("bird", "box", "frr"))
         link = self.network.wired if is_wired else self.network.link
         link(End(box, "to-bird", "10.0.1.1/24"), End(bird, "eth1", "10.0.1.2/24"), mtu)
@@ -203,7 +202,7 @@ def limits(given: Try) -> None:
     )
     it.bird.stub_networks = [f"198.18.{each}.0/24" for each in range(200)]
     it.start()
-    looks.timed("Full with both", COMES_UP, it.is_up)
+    looks.timed("Full with both", TIMERS.comes_up, it.is_up)
     settings(it, looks)
     long_lsas(it, looks)
     too_long_lsa(it, looks)
@@ -276,7 +275,7 @@ def changed_mtu(it: Line, looks: Looks) -> None:
     it.bird.stop()
     looks.timed("an MTU that changes is told", 5, lambda: is_said(it.box, "its MTU is 1400 now"))
     it.bird.start()
-    looks.timed("and followed: Full at MTU 1400", COMES_UP, it.is_up)
+    looks.timed("and followed: Full at MTU 1400", TIMERS.comes_up, it.is_up)
 
 
 def changed_address(it: Line, looks: Looks) -> None:
@@ -292,7 +291,7 @@ def changed_address(it: Line, looks: Looks) -> None:
     looks.timed("its routes leave the kernel's table", 4, lambda: len(it.box.kernel_routes()) < 10)
     run("ip", "-n", own, "addr", "add", "10.0.1.1/24", "dev", "to-bird")
     run("ip", "-n", own, "addr", "del", "10.0.9.1/24", "dev", "to-bird")
-    looks.timed("it's back: Full again", COMES_UP, it.is_up)
+    looks.timed("it's back: Full again", TIMERS.comes_up, it.is_up)
 
 
 FORGE = """
@@ -320,7 +319,7 @@ def forged(it: Line, looks: Looks) -> None:
 
     lines, before = len(it.box.log_lines()), memory()
     run("ip", "netns", "exec", it.bird.namespace, sys.executable, "-c", FORGE, HOST)
-    time.sleep(DEAD_INTERVAL + 2)
+    time.sleep(TIMERS.dead + 2)
     new, more = len(it.box.log_lines()) - lines, memory() - before
     looks.look(
         "20,000 forged packets of other Router IDs: few lines in the log", new <= 30, f"{new}"
@@ -347,7 +346,7 @@ def peers(given: Try) -> None:
     box = Box(network, given.routerd, own, "box", "1.1.1.1", [side])
     box.start()
     bird.start()
-    looks.timed("Full", COMES_UP, lambda: is_full(box, "2.2.2.2") and is_full(bird, "1.1.1.1"))
+    looks.timed("Full", TIMERS.comes_up, lambda: is_full(box, "2.2.2.2") and is_full(bird, "1.1.1.1"))
     wanted = {"172.16.1.0/24": ["198.51.100.7"]}
 
     def has() -> bool:
@@ -366,15 +365,14 @@ def peers(given: Try) -> None:
 def rollover(given: Try) -> None:
     """Key 5 is used for some seconds more, then key 6; both ends know both."""
     it, looks = Line(given), given.looks
-    now = datetime.now().astimezone()
-    change = now + timedelta(seconds=30)
+    change = datetime.now().astimezone() + timedelta(seconds=TIMERS.comes_up - 10)
     old, new = replace(SHA, ends=change), Secret(6, "hmac sha512", "the next one", begins=change)
     side = Side("eth1", (old, new))
     it.bird.sides[0] = side
     it.box.sides[0] = replace(side, name="to-bird")
     it.start()
-    looks.timed("two keys with lifetimes at both ends: Full", COMES_UP, it.is_up)
-    while datetime.now().astimezone() < change + timedelta(seconds=2 * DEAD_INTERVAL):
+    looks.timed("two keys with lifetimes at both ends: Full", TIMERS.comes_up, it.is_up)
+    while datetime.now().astimezone() < change + timedelta(seconds=2 * TIMERS.dead):
         time.sleep(1)
     refused = [line for line in it.box.log_lines() if "refused" in line or "digest" in line]
     looks.look(
@@ -405,15 +403,15 @@ def links(given: Try) -> None:
         return sorted(box.kernel_routes().get("172.16.2.0/24", [])) == list(hops)
 
     both = ("10.0.1.2", "10.0.2.2")
-    looks.timed("FRR's network has two next hops", COMES_UP, lambda: has(*both))
+    looks.timed("FRR's network has two next hops", TIMERS.comes_up, lambda: has(*both))
     run("ip", "-n", own, "link", "set", "eth2", "down")
     looks.timed("one link down here: one next hop", 4, lambda: has(both[0]))
     run("ip", "-n", own, "link", "set", "eth2", "up")
-    looks.timed("up again: two", COMES_UP, lambda: has(*both))
+    looks.timed("up again: two", TIMERS.comes_up, lambda: has(*both))
     run("ip", "-n", far, "link", "set", "eth2", "down")
     looks.timed("one link down there: one next hop", 4, lambda: has(both[0]))
     run("ip", "-n", far, "link", "set", "eth2", "up")
-    looks.timed("up again: two", COMES_UP, lambda: has(*both))
+    looks.timed("up again: two", TIMERS.comes_up, lambda: has(*both))
     before, gone = len(box.log_lines()), "eth2: the kernel has no"
     run("ip", "-n", own, "link", "del", "eth2")
     looks.timed(
@@ -424,7 +422,7 @@ def links(given: Try) -> None:
     looks.look("and by `leafrunt status`", is_said(box, gone))
     looks.timed("and one next hop", 4, lambda: has(both[0]))
     network.link(*ends["eth2"])
-    looks.timed("it is made again: two", COMES_UP, lambda: has(*both))
+    looks.timed("it is made again: two", TIMERS.comes_up, lambda: has(*both))
     status = box.stop()
     looks.look("the end", status == 0 and has(), f"status {status}")
     frr.stop()
@@ -439,7 +437,7 @@ def again(given: Try) -> None:
         return [prefix in output("ip", "-n", each, "-4", "route", "show", prefix) for each in names]
 
     it.start()
-    looks.timed("a box between BIRD and FRR: Full", COMES_UP, it.is_up)
+    looks.timed("a box between BIRD and FRR: Full", TIMERS.comes_up, it.is_up)
     it.box.ask(f"add {prefix} 20 2 0")
     looks.timed("a destination is announced: both have it", 20, lambda: all(are_there()))
     time.sleep(6)

@@ -15,9 +15,9 @@ from typing import Any
 
 from tests.deleted import Deleted
 from tests.network import (
-    COMES_UP,
     HOST,
     SHA,
+    TIMERS,
     Announce,
     Bird,
     Box,
@@ -150,7 +150,7 @@ class Transit:
         for each in self.others.values():
             each.start()
         if "other" in self.others:
-            within(COMES_UP, lambda: self.is_connected("other"))
+            within(TIMERS.comes_up, lambda: self.is_connected("other"))
         self.tried.start()
 
     def losses(self) -> Losses:
@@ -196,7 +196,7 @@ def transit(given: Try) -> None:
 def ended_and_started(it: Transit, given: Try, who: str) -> None:
     looks, is_box = given.looks, isinstance(it.tried, Box)
     it.start()
-    looks.timed(f"{who}: the packets go by it", COMES_UP, it.is_by_tried)
+    looks.timed(f"{who}: the packets go by it", TIMERS.comes_up, it.is_by_tried)
     time.sleep(SETTLED)
 
     def told(what: str, lost: int, said: str) -> None:
@@ -209,7 +209,7 @@ def ended_and_started(it: Transit, given: Try, who: str) -> None:
 
     def start_again() -> None:
         it.tried.start()
-        within(COMES_UP, it.is_by_tried, 0.1)
+        within(TIMERS.comes_up, it.is_by_tried, 0.1)
 
     told("started again", *it.lost_in(start_again, SETTLED))
 
@@ -245,7 +245,7 @@ def reload(given: Try) -> None:
         given.network = it.network
         try:
             it.start()
-            given.looks.timed(f"{kind}: the packets go by it", COMES_UP, it.is_by_tried)
+            given.looks.timed(f"{kind}: the packets go by it", TIMERS.comes_up, it.is_by_tried)
             time.sleep(SETTLED)
             of_box = (kernel_left_alone,) if kind == "a box" else ()
             with ByHand(it, given):
@@ -471,7 +471,7 @@ def passive_or_not(it: Transit, given: Try) -> None:
             changed(it, [*it.sides[:2], lan], (EXTERNAL,))
             given.looks.timed(
                 f"{it.kind}: its interface is {what}",
-                COMES_UP,
+                TIMERS.comes_up,
                 lambda: is_full(it.birds["lan"], OWN) is not is_passive,
             )
 
@@ -494,11 +494,12 @@ def of_own(it: Transit) -> str:
 
 
 def intervals_change(it: Transit, given: Try) -> None:
-    """HelloInterval 2 to 3 and RouterDeadInterval 8 to 12, here and then at the neighbors."""
+    """HelloInterval by one, RouterDeadInterval by four, here and then at the neighbors."""
+    hello, dead = TIMERS.hello + 1, TIMERS.dead + 4
 
     def changes() -> None:
-        at_both_ends(it, hello=3, dead=12)
-        time.sleep(13)
+        at_both_ends(it, hello=hello, dead=dead)
+        time.sleep(dead + 1)
 
     nothing_lost(it, given, "HelloInterval and RouterDeadInterval are changed at both ends", changes)
 
