@@ -9,7 +9,7 @@ from collections.abc import Iterator
 from dataclasses import replace
 from typing import NamedTuple
 
-from leafrunt_host.lsas import INSTANCE, LsType
+from leafrunt_host.lsas import INSTANCE, LsType, is_whole
 from leafrunt_host.packets import Packet
 
 MIN_LS_ARRIVAL = 1.0
@@ -44,8 +44,8 @@ class Arrivals:
 
     def waits(self, number: int, update: Packet, lsa: bytes, now: float) -> bool:
         """Whether an LSA of an Update at that interface has to wait. One that hasn't is given to
-        `routerd` now."""
-        if lsa[3] != LsType.ROUTER:
+        `routerd` now. A wrong checksum keeps no other instance waiting: `routerd` discards it."""
+        if lsa[3] != LsType.ROUTER or not is_whole(lsa):
             return False
         key, instance = lsa[KEY], INSTANCE.unpack_from(lsa, AT_INSTANCE)
         given = self._given.get(key)

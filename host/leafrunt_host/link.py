@@ -45,8 +45,9 @@ from leafrunt_host.packets import (
     lsas_of,
     read,
 )
+from leafrunt_host.places import AGE, FLUSHED, Places
 from leafrunt_host.tracing import Tracer
-from leafrunt_host.withheld import AGE, FLUSHED, Database, Withheld
+from leafrunt_host.withheld import Withheld
 
 log = logging.getLogger("leafrunt.bridge")
 NOBODY = IPv4Address(0)
@@ -114,7 +115,7 @@ class Link:
         numbers: SequenceNumbers,
         neighbor_numbers: NeighborNumbers | None = None,
         watch: Watch | None = None,
-        database: Database | None = None,
+        places: Places | None = None,
         own_lsas: OwnLsas | None = None,
         arrivals: Arrivals | None = None,
     ) -> None:
@@ -126,8 +127,7 @@ class Link:
         self.counters: Counter[str] = Counter()
         self.filter = interface.filter()
         self._watch = watch
-        self._database = Database() if database is None else database
-        self._withheld = Withheld(self._database)
+        self._withheld = Withheld(Places() if places is None else places)
         self._own_lsas = OwnLsas() if own_lsas is None else own_lsas
         self._arrivals = Arrivals() if arrivals is None else arrivals
         self.owed = Owed()
@@ -436,10 +436,9 @@ class Link:
     def _is_to_begin_anew(self, packet: Packet, now: float) -> bool:
         """Takes note of what `routerd` has and asks for; whether it waits for what it can't have,
         or has room again for what was withheld, which is looked at with each Hello."""
+        self._withheld.sent(packet, now)
         if packet.type == PacketType.LINK_STATE_UPDATE:
-            lsas = lsas_of(packet.body)
-            self._database.sent(lsas, now)
-            self._own_lsas.sent(packet.router_id.packed, lsas, now)
+            self._own_lsas.sent(packet.router_id.packed, lsas_of(packet.body), now)
         if packet.type == PacketType.LINK_STATE_REQUEST:
             is_stuck = self._withheld.is_stuck(packet.body, now)
             self._tell_withheld(now)

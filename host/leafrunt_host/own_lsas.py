@@ -11,7 +11,8 @@ from __future__ import annotations
 
 from collections.abc import Iterable
 
-from leafrunt_host.withheld import AGE, FLUSHED, INSTANCE, KEY, Key
+from leafrunt_host.places import AGE, FLUSHED, KEY, Key
+from leafrunt_host.withheld import INSTANCE
 
 MIN_LS_INTERVAL = 5.0
 ORIGIN = slice(8, 12)

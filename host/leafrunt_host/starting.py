@@ -19,11 +19,11 @@ from leafrunt_host.holding import Holding
 from leafrunt_host.isolation import World
 from leafrunt_host.link import Interface, Link, Watch
 from leafrunt_host.own_lsas import OwnLsas
+from leafrunt_host.places import NO_EXTERNALS, Places
 from leafrunt_host.rooms import Room
 from leafrunt_host.router import Router, RouterGone
 from leafrunt_host.sockets import LOOPBACK, udp_socket
 from leafrunt_host.statuses import Stopped
-from leafrunt_host.withheld import NO_EXTERNALS, Database
 
 log = logging.getLogger("leafrunt.box")
 SECONDS_TO_START = 20
@@ -175,7 +175,7 @@ class Starter:
         self, world: World, configuration: Configuration, told: Callable[[str], None]
     ) -> Parts:
         ports, arrivals = ports_of(world, configuration), Arrivals()
-        shared = Database(no_externals=NO_EXTERNALS), OwnLsas(time.monotonic()), arrivals
+        shared = Places(no_externals=NO_EXTERNALS), OwnLsas(time.monotonic()), arrivals
 
         def link_of(interface: Interface) -> Link:
             numbers = self._numbers, self._neighbor_numbers

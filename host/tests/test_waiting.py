@@ -190,6 +190,17 @@ class WithinMinLSArrival(unittest.TestCase):
             lsa = external("192.0.2.0/24", "2.2.2.2", sequence=FIRST + number)
             self.assertFalse(self.waits(lsa, 10))
 
+    def test_a_wrong_checksum(self) -> None:
+        """It doesn't keep the instances that hold waiting, however high its sequence number is."""
+        forged = of_two(99, TWO)
+        forged = forged[:-1] + bytes([forged[-1] ^ 1])
+        self.assertFalse(self.waits(forged, 10))
+        self.assertFalse(self.waits(of_two(1), 10.1))
+        self.assertTrue(self.waits(of_two(2), 10.2))
+        self.assertFalse(self.waits(forged, 10.3))
+        ((_, packet),) = self.arrivals.due(11.2)
+        self.assertEqual(lsas_of(packet.body), [of_two(2)])
+
     def test_bounds(self) -> None:
         for number in range(MOST_GIVEN + 9):
             self.waits(router_lsa(str(IPv4Address(number + 1)), STUB), 10)

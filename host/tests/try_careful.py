@@ -22,6 +22,7 @@ from tests.network import (
     Try,
     is_full,
     output,
+    prefixes,
     within,
 )
 
@@ -81,6 +82,78 @@ class Shared:
             looks, strays = looks + 1, strays + (self.hop() != NEIGHBOR)
             time.sleep(0.1)
         return looks, strays, attack.communicate()[0].strip()
+
+
+class Edge:
+    """1.1.1.1 between 2.2.2.2, on a link without keys, and 3.3.3.3, on one with keys."""
+
+    def __init__(self, given: Try, is_box: bool) -> None:
+        self.network = network = given.network
+        names = own, edge, core = [network.namespace(each) for each in ("own", "edge", "core")]
+        for at, far in ((1, edge), (2, core)):
+            network.link(
+                End(own, f"eth{at}", f"10.0.{at}.1/24"), End(far, "eth1", f"10.0.{at}.2/24")
+            )
+        sides = [Side("eth1"), Side("eth2", (SHA,))]
+        self.tried: Box | Bird
+        if is_box:
+            self.tried = Box(network, given.routerd, own, "tried", "1.1.1.1", sides)
+        else:
+            self.tried = Bird(network, own, "1.1.1.1", sides)
+            self.tried.folder = network.work / "tried"
+            self.tried.folder.mkdir()
+        self.edge = Bird(network, edge, "2.2.2.2", [Side("eth1")])
+        self.core = Bird(network, core, "3.3.3.3", [Side("eth1", (SHA,))])
+        for each in (self.edge, self.core):
+            each.folder = network.work / each.router_id
+            each.folder.mkdir()
+        self.names = names
+
+    def start(self) -> bool:
+        for each in (self.tried, self.edge, self.core):
+            each.start()
+        return within(COMES_UP, lambda: is_full(self.tried, "2.2.2.2", "3.3.3.3")) is not None
+
+    def stop(self) -> None:
+        for each in (self.tried, self.edge, self.core):
+            each.stop()
+
+    def comes(self, by: Bird, first: int) -> float | None:
+        """After how many seconds fifty new destinations of a neighbor are in the kernel's table."""
+        by.externals = [*by.externals, *prefixes(first, 50)]
+        by.configure()
+
+        def has_them() -> bool:
+            lines = output("ip", "-n", self.tried.namespace, "-4", "route", "show").splitlines()
+            return sum(each.startswith(f"{first}.64.") for each in lines) == 50
+
+        return within(20, has_them)
+
+
+def discarded(given: Try) -> None:
+    """16,770 LSAs with wrong checksums come by a link without keys: meanwhile, and after it, new
+    destinations come by that link and by one with keys. BIRD beside it."""
+    for is_box in (True, False):
+        given.anew(lambda: full_of_nothing(given, is_box))
+
+
+def full_of_nothing(given: Try, is_box: bool) -> None:
+    it, looks, who = Edge(given, is_box), given.looks, "a box" if is_box else "BIRD"
+    looks.look(f"{who}: Full with both", it.start())
+    words = [sys.executable, str(HOST / "tests" / "attack.py"), "discarded", "224.0.0.5", "30"]
+    log = it.network.work / "attack"
+    attack = it.network.start(it.names[1], [*words, "126"], log, stdout=subprocess.PIPE)
+    time.sleep(5)  # (each of them was sent once by then)
+    for when, edge, core in (("meanwhile", 60, 61), ("after it", 62, 63)):
+        took = {"with keys": it.comes(it.core, core), "without": it.comes(it.edge, edge)}
+        measured = ", ".join(f"{link}: {took[link] or -1:.1f} s" for link in took)
+        if is_box:
+            looks.look(f"{when} fifty new destinations come by each link", all(took.values()), measured)
+        else:
+            print(f"     BIRD, {when}: {measured}")
+        if when == "meanwhile":
+            print(f"     {attack.communicate()[0].strip()}")
+    it.stop()
 
 
 def sources(given: Try) -> None:
