@@ -9,22 +9,23 @@ from contextlib import AbstractContextManager, closing
 from dataclasses import replace
 from ipaddress import IPv4Address, IPv4Network
 from pathlib import Path
+from typing import TYPE_CHECKING
 
-from leafrunt_host import console, remains
-from leafrunt_host.box import Box
+from leafrunt_host import console
 from leafrunt_host.client import Client, chosen_box, own_answer
-from leafrunt_host.configuration import Configuration, read_configuration
 from leafrunt_host.journal import LEVELS, is_journal, one_line, start_log
-from leafrunt_host.kernel import kernel_interfaces
 from leafrunt_host.listing import DOCUMENTS, listed
-from leafrunt_host.metrics import FORMATS, metrics_of
+from leafrunt_host.metrics import FORMATS
 from leafrunt_host.rooms import RUN, STATE, Room
-from leafrunt_host.status import warnings_of
 from leafrunt_host.statuses import Status, Stopped
 from leafrunt_host.version import Version
-from leafrunt_host.watching import LEAST_INTERVAL, MOST_INTERVAL, watch
 
-LISTS = ("status", *DOCUMENTS, "database")
+if TYPE_CHECKING:
+    from leafrunt_host.configuration import Configuration
+
+LEAST_INTERVAL, MOST_INTERVAL = 0.5, 3600.0
+"""Seconds between two looks of `watch`."""
+LISTS = ("status", *DOCUMENTS, "database", "why")
 """What lists something of a box, and takes `--json`."""
 ABOUT = """A box that routes: `routerd`, an OSPF router, on this host, among BIRD, FRR and others.
 
@@ -41,6 +42,7 @@ EXAMPLES = {
     "programs": "leafrunt programs\n  leafrunt programs --json | jq -r .programs[].object",
     "counters": "leafrunt counters\n  leafrunt counters --json | jq '.counters[] | {name, value}'",
     "database": "leafrunt database\n  leafrunt database 203.0.113.0\n  leafrunt database --json | jq .lsas[0]",
+    "why": "leafrunt why 203.0.113.0/24\n  leafrunt why 203.0.113.7\n  leafrunt why --json 203.0.113.0/24 | jq .program.answer",
     "watch": "leafrunt watch\n  leafrunt watch --interval 5 --box one\n  leafrunt watch --once",
     "metrics": "leafrunt metrics\n  leafrunt metrics --format prometheus | sponge /var/lib/prometheus/node-exporter/leafrunt.prom",
     "map": "leafrunt map | dot -Tsvg >area.svg\n  leafrunt map --to 203.0.113.0/24 | dot -Tsvg >way.svg",
@@ -60,6 +62,7 @@ TITLES = {
     "programs": "list the programs at the hooks",
     "counters": "list the programs' counters that are above 0; in JSON those with a name too",
     "database": "list the LSAs that a box knows, as BIRD's `show ospf lsadb` does; with an ID those, whole",
+    "why": "say why a destination is, or isn't, in the kernel's table: LSAs, the program at veto, neighbors",
     "watch": "follow the neighbors, routes and counters of a box on the terminal; q leaves",
     "metrics": "print what a box is doing as OpenMetrics text, for Prometheus (needs python3-prometheus-client)",
     "map": "print the area as a Graphviz graph, for `dot`",
@@ -77,6 +80,14 @@ def prefix(text: str) -> IPv4Network:
         raise argparse.ArgumentTypeError(
             f"{text!r} is no A.B.C.D/L whose bits after the first L are 0"
         ) from error
+
+
+def destination(text: str) -> str:
+    try:
+        return str(IPv4Network(text) if "/" in text else IPv4Address(text))
+    except ValueError as error:
+        said = f"{text!r} is no A.B.C.D/L whose bits after the first L are 0, and no address"
+        raise argparse.ArgumentTypeError(said) from error
 
 
 def address(text: str) -> IPv4Address:
@@ -128,6 +139,9 @@ def with_own_words(one: argparse.ArgumentParser, name: str) -> None:
         one.add_argument("--json", action="store_true", help=about)
     if name == "database":
         one.add_argument("id", nargs="?", type=address, metavar="ID", help="a Link State ID")
+    if name == "why":
+        about = "A.B.C.D/L, or an address, whose longest prefix is meant"
+        one.add_argument("destination", type=destination, metavar="PREFIX", help=about)
     if name == "watch":
         about = f"seconds between two looks, {LEAST_INTERVAL:g} to {MOST_INTERVAL:g} (default 1)"
         one.add_argument("--interval", type=interval, default=1.0, metavar="SECONDS", help=about)
@@ -162,7 +176,14 @@ def parser() -> argparse.ArgumentParser:
     return top
 
 
+# (each command loads its own part alone: a client isn't to wait for what a box is made of)
+
+
 def up(words: argparse.Namespace) -> Status:
+    from leafrunt_host.box import Box
+    from leafrunt_host.configuration import read_configuration
+    from leafrunt_host.kernel import kernel_interfaces
+
     log = start_log(words.log_level or "info")
 
     def read_again(path: Path) -> Configuration:
@@ -180,12 +201,17 @@ def up(words: argparse.Namespace) -> Status:
 
 
 def check(words: argparse.Namespace) -> Status:
+    from leafrunt_host.configuration import read_configuration
+    from leafrunt_host.kernel import kernel_interfaces
+
     configuration = read_configuration(words.config, kernel_interfaces())
     print(*checked_lines(words.config, configuration), sep="\n")
     return Status.DONE
 
 
 def checked_lines(path: Path, configuration: Configuration) -> list[str]:
+    from leafrunt_host.status import warnings_of
+
     names = ", ".join(f"{each.name} {each.address}" for each in configuration.interfaces)
     said = f"{path}: nothing is wrong: router {configuration.router_id} at {names}"
     return [said, *(f"warning: {each}" for each in warnings_of(configuration))]
@@ -210,11 +236,15 @@ def list_what_is_there(words: argparse.Namespace) -> Status:
 
 
 def follow(words: argparse.Namespace) -> Status:
+    from leafrunt_host.watching import watch
+
     with client_of(words) as client:
         return watch(client, words.interval, words.once)
 
 
 def metrics(words: argparse.Namespace) -> Status:
+    from leafrunt_host.metrics import metrics_of
+
     with client_of(words) as client:
         text = metrics_of(client, words.format)
     if isinstance(sys.stdout, io.TextIOWrapper):
@@ -247,6 +277,8 @@ def down(words: argparse.Namespace) -> Status:
 
 
 def clear(words: argparse.Namespace) -> Status:
+    from leafrunt_host import remains
+
     name, run = chosen_box(words.run_directory, words.box), words.run_directory.absolute()
     return say(remains.clear(Room(name, run / name, STATE / name)))
 

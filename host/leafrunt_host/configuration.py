@@ -27,7 +27,7 @@ from leafrunt_host.journal import LEVELS
 from leafrunt_host.kernel import KernelInterface
 from leafrunt_host.kernel_settings import KernelSettings, kernel_settings_of, look_at_vrf
 from leafrunt_host.redistribution import Redistribution, redistribution_of, source_of
-from leafrunt_host.rooms import LONGEST_OBJECT
+from leafrunt_host.rooms import BOX_NAME, LONGEST_OBJECT
 from leafrunt_host.statuses import Status, Stopped
 from leafrunt_host.tables import Mistake, Table, shown, toml_of
 
@@ -37,7 +37,6 @@ LEAST_MTU, MOST_MTU = 576, 65535
 ALONE = 32
 """The length of a prefix that has one address alone."""
 LONGEST_SECRET = 256
-BOX_NAME = re.compile(r"[A-Za-z0-9][A-Za-z0-9._-]{0,63}")
 INTERFACE_NAME = re.compile(r"(?!\.{1,2}$)[^\s/:%]{1,15}")
 KEY_NAME = re.compile(r"[A-Za-z0-9_-]{1,64}")
 HOOKS = ("count", "tag", "price", "veto")

@@ -19,11 +19,13 @@ from leafrunt_host.journal import Kept, where_it_failed
 from leafrunt_host.kernel import KernelRoute, kernel_route
 from leafrunt_host.observing import Limiter
 from leafrunt_host.programs import attached
-from leafrunt_host.router import Router, RouterGone
+from leafrunt_host.router import Router, RouterGone, RouterSilent
 from leafrunt_host.server import Answer, Asked
 from leafrunt_host.status import Known, neighbors_of, status_lines, status_of
 from leafrunt_host.statuses import FAILED, REFUSED, Status, Stopped
 from leafrunt_host.topology import Topology, database_lines, whole_lines
+from leafrunt_host.why import Heard, Why, heard_of, prefix_asked
+from leafrunt_host.why_lines import why_lines
 
 log = logging.getLogger("leafrunt.console")
 LOG_LINES = 40
@@ -72,6 +74,7 @@ class Desk:
             "database": self._database,
             "map": self._map,
             "log": self._last_of_log,
+            "why": self._why,
         }
 
     def serve(self, router: Router) -> None:
@@ -249,6 +252,27 @@ class Desk:
             if each.interface in addresses and each.address
         )
         return Destination(route.prefix, own, said)
+
+    def _why(self, rest: str) -> list[str]:
+        is_json = rest.startswith("json ")
+        text = rest.removeprefix("json ")
+        heard = self._heard()
+        try:
+            prefix = prefix_asked(text, heard, self._topology)
+        except ValueError:
+            raise Refused(
+                "after `why` comes a destination: A.B.C.D/L whose other bits are 0, or an address"
+            ) from None
+        said = Why(self._known, self._topology, heard, prefix).document()
+        return [json.dumps(said)] if is_json else why_lines(said)
+
+    def _heard(self) -> Heard:
+        """What `routerd` says of its routes, if it says it soon."""
+        router = self._router
+        try:
+            return router.soon(lambda: heard_of(lambda line: router.ask_list(line) or []))
+        except RouterSilent as why:
+            return Heard({}, [], str(why))
 
     def _last_of_log(self, rest: str) -> list[str]:
         if rest and not (rest.isascii() and rest.isdigit() and len(rest) <= 6):

@@ -5,12 +5,15 @@ import argparse
 import json
 from collections.abc import Callable, Iterable, Iterator
 from contextlib import contextmanager
+from typing import TYPE_CHECKING
 
 from leafrunt_host import documents
 from leafrunt_host.client import Client, list_of, own_answer
-from leafrunt_host.kernel import Json
 from leafrunt_host.statuses import Stopped
 from leafrunt_host.tables import shown
+
+if TYPE_CHECKING:
+    from leafrunt_host.kernel import Json
 
 DOCUMENTS: dict[str, Callable[[Json, Iterable[str]], Json]] = {
     "table": documents.table_of,
@@ -67,6 +70,7 @@ def listed(client: Client, words: argparse.Namespace) -> list[str]:
     """What a command prints that lists something: the words of the command line say what."""
     kind = str(words.command)
     rest = [str(words.id)] if kind == "database" and words.id else []
+    rest += [words.destination] if kind == "why" else []
     if words.json:
         return [json.dumps(document_of(client, kind, rest), indent=2)]
     return list_of(client.ask(" ".join([kind, *rest])))

@@ -7,9 +7,12 @@ import subprocess
 import threading
 import time
 from collections.abc import Callable
+from concurrent.futures import Future
+from concurrent.futures import TimeoutError as WaitedFor
 from contextlib import AbstractContextManager, nullcontext
 from dataclasses import dataclass
 from pathlib import Path
+from typing import NamedTuple, TypeVar
 
 from leafrunt_host.answers import Answers
 from leafrunt_host.isolation import ENVIRONMENT, World
@@ -24,6 +27,9 @@ ATTACH = "attach "
 LONGEST_LINE = 4096
 SECONDS_TO_ANSWER = 120
 SECONDS_TO_END = 30
+SECONDS_TO_HEAR = 1.0
+"""Whoever looks at a box waits so long for `routerd`."""
+T = TypeVar("T")
 
 
 def started(world: World, program: Path, configuration: Path) -> subprocess.Popen[bytes]:
@@ -45,6 +51,20 @@ def started(world: World, program: Path, configuration: Path) -> subprocess.Pope
 
 class RouterGone(Exception):
     """`routerd` has ended, or doesn't answer any more."""
+
+
+class RouterSilent(Exception):
+    """`routerd` doesn't answer now."""
+
+
+class Unanswered(NamedTuple):
+    """A line that `routerd` was given and hasn't answered, and for how many seconds."""
+
+    line: str
+    seconds: float
+
+    def __str__(self) -> str:
+        return f"routerd hasn't answered `{self.line}` for {self.seconds:.0f} s"
 
 
 @dataclass(frozen=True)
@@ -77,6 +97,8 @@ class Router:
         world = world or World(None)
         self._one_at_a_time = threading.Lock()
         self._is_gone = False
+        self._asking: tuple[str, float] | None = None
+        """The line that waits for its answer, and since when."""
         self._ran: subprocess.Popen[bytes] = world.do(
             lambda: started(world, program, configuration)
         )
@@ -133,8 +155,38 @@ class Router:
         with self._one_at_a_time:
             if self._is_gone:
                 raise RouterGone("routerd has ended")
-            self._write(data + b"\n")
-            return self._answer(line in LISTS, seconds)
+            self._asking = line, time.monotonic()
+            try:
+                self._write(data + b"\n")
+                return self._answer(line in LISTS, seconds)
+            finally:
+                self._asking = None
+
+    def unanswered(self, seconds: float = SECONDS_TO_HEAR) -> Unanswered | None:
+        """The line that it hasn't answered for so long; None if there is none."""
+        asking = self._asking
+        since = time.monotonic() - asking[1] if asking else 0.0
+        return Unanswered(asking[0], since) if asking and since >= seconds else None
+
+    def soon(self, ask: Callable[[], T], seconds: float = SECONDS_TO_HEAR) -> T:
+        """What `ask` brings, which asks `routerd`. `RouterSilent` if that takes longer, or another
+        line has waited so long already; the answer is then waited for in a thread of its own."""
+        if it := self.unanswered():
+            raise RouterSilent(str(it))
+        answer: Future[T] = Future()
+
+        def work() -> None:
+            try:
+                answer.set_result(ask())
+            except BaseException as error:
+                answer.set_exception(error)
+
+        threading.Thread(target=work, name="asker", daemon=True).start()
+        try:
+            return answer.result(seconds)
+        except WaitedFor:
+            it = self.unanswered(0) or Unanswered("a line", seconds)
+            raise RouterSilent(str(it)) from None
 
     def _answer(self, is_list: bool, seconds: float) -> tuple[bytes, bytes | None]:
         try:

@@ -250,16 +250,22 @@ class Topology:
     def entries(self) -> list[tuple[LsHeader, Entry]]:
         """The LSAs with their headers of now, in the order of their keys; those that are flushed or
         ran out aren't in it. What the bridge has handed over by now is read first."""
+        found, now = self.all_entries()
+        found.sort()
+        return [(entry.header_at(now), entry) for _, entry in found if entry.age_at(now) < MAX_AGE]
+
+    def all_entries(self) -> tuple[list[tuple[bytes, Entry]], float]:
+        """The LSAs by their keys, and the moment; also those that were flushed or ran out within the
+        hour."""
         is_read = threading.Event()
         self._unread.put(is_read)
         is_read.wait(SECONDS_TO_READ)
         now = self._clock()
         with self._one_at_a_time:
             for key, entry in list(self._entries.items()):
-                if entry.age_at(now) == MAX_AGE and now - entry.moment > MAX_AGE:
+                if now - entry.moment > MAX_AGE and entry.age_at(now) == MAX_AGE:
                     del self._entries[key]
-            found = sorted(self._entries.items())
-        return [(entry.header_at(now), entry) for _, entry in found if entry.age_at(now) < MAX_AGE]
+            return list(self._entries.items()), now
 
 
 HEADING = (
