@@ -17,6 +17,7 @@ from leafrunt_host.exchange import Side
 from leafrunt_host.forwarding import CannotKeep, Hop, KernelTable
 from leafrunt_host.holding import Holding
 from leafrunt_host.journal import where_it_failed
+from leafrunt_host.own_lsas import SECONDS_REPLACED
 from leafrunt_host.packets import HELLO, Packet, PacketType
 from leafrunt_host.refusals import Refusals
 from leafrunt_host.router import Router, RouterGone
@@ -329,7 +330,7 @@ class Keeper:
         if is_changed:
             self._table, self._lines = table, table.splitlines()
         hops, own = self._hops(), self._own_destinations()
-        outcome = kernel.keep(self._lines, hops, own, SECONDS_ABSENT)
+        outcome = kernel.keep(self._lines, hops, own, self._patience())
         self._is_kept.set()
         for each in outcome.news:
             log.warning("kernel: %s", each)
@@ -345,6 +346,12 @@ class Keeper:
         if change:
             self._known.note_table(time.time(), change)
         return is_changed
+
+    def _patience(self) -> float:
+        """For how many seconds a route stays that `table` lacks."""
+        now, links = time.monotonic(), self._known.links.values()
+        is_in_doubt = any(each.is_table_in_doubt(now) for each in links)
+        return SECONDS_REPLACED + SECONDS_ABSENT if is_in_doubt else SECONDS_ABSENT
 
     def _own_destinations(self) -> frozenset[IPv4Network]:
         """What this router announces, made anew only if that changed."""

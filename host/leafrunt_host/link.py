@@ -174,6 +174,10 @@ class Link:
         """The neighbor's last Hello."""
         return self._hello
 
+    def is_table_in_doubt(self, now: float) -> bool:
+        """See `OwnLsas.is_in_doubt`: of all links together."""
+        return self._own_lsas.is_in_doubt(now)
+
     def next_hop(self, router_id: IPv4Address) -> IPv4Address | None:
         """Where that neighbor's Hellos come from that authentication let pass (RFC 2328, 10.5):
         a next hop may come from no other packet."""
@@ -341,6 +345,8 @@ class Link:
             return lsas
         own, number = self.observer.own, self.interface.number
         router_id = own.router_id.packed if own else b""
+        for each in lsas:
+            self._own_lsas.came(router_id, each, now)
         found = [
             each
             for each in lsas

@@ -115,6 +115,10 @@ class StandInLink:
     interface: Any
     is_usable: bool = True
     index: int = 5
+    doubted_until: float = 0.0
+
+    def is_table_in_doubt(self, now: float) -> bool:
+        return now < self.doubted_until
 
     def next_hop(self, router_id: IPv4Address) -> IPv4Address:
         return IPv4Address("10.0.1.2") if router_id == TWO else IPv4Address("10.0.2.2")
@@ -208,6 +212,18 @@ class Keeps(Waits):
         self.assertEqual(len(self.kernel.forwards()), 1)
         self.assertLessEqual(self.keeper._pace.due, first + SECONDS_ABSENT)
         self.look(first + SECONDS_ABSENT + 0.01)
+        self.assertEqual(self.kernel.forwards(), {})
+
+    def test_routes_that_are_gone_with_the_own_router_lsa(self) -> None:
+        """While a foreign one stands in its place `table` is no word on them."""
+        now = time.monotonic()
+        self.look(now)
+        self.router.table, self.links[1].doubted_until = self.router.table[:1], now + 5
+        for after in (1, 1.2, 4.9):
+            self.keeper._pace.woken(now + after)
+            self.look(self.keeper._pace.due)
+            self.assertEqual(len(self.kernel.forwards()), 1)
+        self.look(now + 5.1)
         self.assertEqual(self.kernel.forwards(), {})
 
     def test_a_kernel_that_fails_meanwhile(self) -> None:

@@ -14,7 +14,7 @@ from leafrunt_host.bridge import Bridge
 from leafrunt_host.holding import LONGEST, MOST, Holding, own_router_lsa_in
 from leafrunt_host.link import EARLY, Link
 from leafrunt_host.lsas import MAX_AGE
-from leafrunt_host.own_lsas import MIN_LS_INTERVAL, OwnLsas
+from leafrunt_host.own_lsas import MIN_LS_INTERVAL, SECONDS_REPLACED, OwnLsas
 from leafrunt_host.packets import Packet, PacketType, lsas_of, read
 from tests.test_bridge import OWN, THERE, link, own, own_hello, plain
 from tests.test_topology import EXTERNAL, external, router_lsa
@@ -79,6 +79,52 @@ class OwnLsasThatComeBack(unittest.TestCase):
             self.assertEqual(self.given(201, lsa), [lsa])
         self.link.from_router(sent(flushed(mine)), 202)
         self.assertEqual(self.given(202.1, flushed(mine)), [flushed(mine)])
+
+
+class OwnRouterLsaReplaced(unittest.TestCase):
+    """Until `routerd` has originated its own again `table` isn't believed where it lacks routes."""
+
+    def setUp(self) -> None:
+        self.own_lsas = OwnLsas(100.0)
+        self.own_lsas.sent(OWN.packed, [own_lsa(TWO, number=3)], 100)
+
+    def in_doubt(self, lsa: bytes, now: float) -> bool:
+        self.own_lsas.came(OWN.packed, lsa, now)
+        return self.own_lsas.is_in_doubt(now)
+
+    def test_what_replaces_it(self) -> None:
+        last = router_lsa("1.1.1.1", STUB, sequence=0x7FFFFFFF)
+        for lsa in (own_lsa(STUB, number=4), flushed(own_lsa(TWO, number=3)), last):
+            self.setUp()
+            self.assertTrue(self.in_doubt(lsa, 200))
+            self.assertTrue(self.own_lsas.is_in_doubt(200 + SECONDS_REPLACED - 0.1))
+            self.assertFalse(self.own_lsas.is_in_doubt(200 + SECONDS_REPLACED))
+
+    def test_what_does_not(self) -> None:
+        """An older or the same one; another router's; one that `routerd` discards."""
+        later = own_lsa(STUB, number=4)
+        wrong = later[:-1] + bytes([later[-1] ^ 1])
+        for lsa in (own_lsa(number=2), own_lsa(TWO, number=3), of_two(9), EXTERNAL, wrong):
+            self.assertFalse(self.in_doubt(lsa, 200))
+
+    def test_until_it_is_originated_again(self) -> None:
+        """A flush isn't that, nor is the forged one, which is flooded first; nobody puts it off by
+        another forged one."""
+        self.assertTrue(self.in_doubt(own_lsa(STUB, number=9), 200))
+        self.own_lsas.sent(OWN.packed, [own_lsa(STUB, number=9)], 200)
+        self.own_lsas.sent(OWN.packed, [flushed(own_lsa(STUB, number=9))], 201)
+        self.assertTrue(self.own_lsas.is_in_doubt(203))
+        self.assertFalse(self.in_doubt(own_lsa(STUB, number=11), 211))
+        self.own_lsas.sent(OWN.packed, [own_lsa(TWO, number=12)], 212)
+        self.assertTrue(self.own_lsas.is_in_doubt(212.5))
+        self.assertFalse(self.own_lsas.is_in_doubt(214))
+
+    def test_at_a_link(self) -> None:
+        interface, numbers = link().interface, link().authentication._numbers
+        one = Link(interface, numbers, own_lsas=self.own_lsas)
+        one.from_router(own_hello(), 100)
+        one.from_wire(update(own_lsa(STUB, number=4)), THERE, 200)
+        self.assertTrue(one.is_table_in_doubt(201))
 
 
 class Held(unittest.TestCase):

@@ -23,12 +23,29 @@ from tests.network import (
     is_full,
     output,
     prefixes,
+    run,
     within,
 )
 
 BEHIND = "172.16.2.0/24"
 """A network behind 2.2.2.2."""
 NEIGHBOR, ATTACKER = "10.0.1.2", "10.0.1.66"
+FLOOD_MARTIANS = """
+import socket, sys
+from dataclasses import replace
+from ipaddress import IPv4Address, IPv4Network
+sys.path.insert(0, sys.argv[1])
+from leafrunt_host.packets import Packet, PacketType
+from tests.attack import NEIGHBOR, NOBODY
+from tests.test_topology import external
+raw = socket.socket(socket.AF_INET, socket.SOCK_RAW, 89)
+raw.setsockopt(socket.SOL_SOCKET, socket.SO_BINDTODEVICE, b"eth1")
+raw.setsockopt(socket.IPPROTO_IP, socket.IP_MULTICAST_LOOP, 0)
+lsas = [external(each, str(NEIGHBOR)) for each in sys.argv[2:]]
+body = len(lsas).to_bytes(4, "big") + b"".join(lsas)
+raw.sendto(Packet(PacketType.LINK_STATE_UPDATE, NEIGHBOR, NOBODY, body).encode(), ("224.0.0.5", 0))
+print(len(lsas), "LSAs")
+"""
 
 
 class Shared:
@@ -153,6 +170,59 @@ def full_of_nothing(given: Try, is_box: bool) -> None:
             print(f"     BIRD, {when}: {measured}")
         if when == "meanwhile":
             print(f"     {attack.communicate()[0].strip()}")
+    it.stop()
+
+
+def forged(given: Try) -> None:
+    """Somebody on a link without keys sends the box's own router-LSA with the last sequence number,
+    0x7fffffff: the kernel keeps the box's own routes meanwhile. BIRD beside it. And destinations that
+    nobody has stay out of the kernel."""
+    for is_box in (True, False):
+        given.anew(lambda: own_lsa_forged(given, is_box))
+    given.anew(lambda: martians(given))
+
+
+def own_lsa_forged(given: Try, is_box: bool) -> None:
+    it, looks, who = Edge(given, is_box), given.looks, "a box" if is_box else "BIRD"
+    looks.look(f"{who}: Full with both", it.start())
+    looks.look("with routes", it.comes(it.core, 60) is not None)
+    words = [sys.executable, str(HOST / "tests" / "attack.py"), "own", "224.0.0.5", "1.2", "1"]
+    attack = it.network.start(it.names[1], words, it.network.work / "attack", stdout=subprocess.PIPE)
+    count, without, began = 0, 0, time.monotonic()
+    while time.monotonic() - began < 20:
+        lines = output("ip", "-n", it.tried.namespace, "-4", "route", "show").splitlines()
+        is_away = sum(each.startswith("60.") for each in lines) < 50
+        count, without = count + 1, without + is_away
+        time.sleep(0.1)
+    measured = f"{without} of {count} looks without all routes, {attack.communicate()[0].strip()}"
+    if is_box:
+        looks.look("a forged own router-LSA: the kernel keeps the routes", not without, measured)
+    else:
+        print(f"     BIRD: {measured}")
+    looks.look("and Full with both after it", is_full(it.tried, "2.2.2.2", "3.3.3.3"))
+    it.stop()
+
+
+def martians(given: Try) -> None:
+    it, looks = Edge(given, True), given.looks
+    nobodys = ["127.5.0.0/16", "0.5.0.0/16", "224.1.0.0/16", "255.255.255.255/32"]
+    it.edge.externals = ["198.51.100.0/24"]
+    run("ip", "-n", it.names[1], "link", "set", "lo", "up")
+    looks.look("a box: Full with both", it.start())
+    words = [sys.executable, "-c", FLOOD_MARTIANS, HOST, *nobodys]
+    print(f"     {run('ip', 'netns', 'exec', it.names[1], *words).strip()}")
+    assert isinstance(it.tried, Box)
+    box = it.tried
+
+    def has_all() -> bool:
+        table = {line.partition(" ")[0] for line in box.says("table")}
+        return table.issuperset(nobodys)
+
+    looks.timed("routerd has them all", 10, has_all)
+    there = within(10, lambda: "198.51.100.0/24" in box.kernel_routes())
+    looks.look("the kernel has the usual one", there is not None)
+    found = [each for each in nobodys if each in box.kernel_routes()]
+    looks.look("and none of those that nobody has", not found, ", ".join(found))
     it.stop()
 
 
