@@ -13,8 +13,9 @@ from typing import TYPE_CHECKING
 
 from leafrunt_host import console
 from leafrunt_host.client import Client, chosen_box, own_answer
+from leafrunt_host.health import Health, checked
 from leafrunt_host.journal import LEVELS, is_journal, one_line, start_log
-from leafrunt_host.listing import DOCUMENTS, listed
+from leafrunt_host.listing import DOCUMENTS, box_status, listed
 from leafrunt_host.metrics import FORMATS
 from leafrunt_host.rooms import RUN, STATE, Room
 from leafrunt_host.statuses import Status, Stopped
@@ -34,7 +35,7 @@ docs/use/HOST.md tells how to set up a network with it. Statuses: 0 done; 1 refu
 EXAMPLES = {
     "up": "leafrunt up /etc/leafrunt/one.toml\n  leafrunt up --log-level debug /etc/leafrunt/one.toml",
     "console": "leafrunt console\n  leafrunt console -c table -c neighbors\n  echo table | leafrunt console --box one",
-    "status": "leafrunt status\n  leafrunt status --json | jq .interfaces[0].neighbor",
+    "status": "leafrunt status\n  leafrunt status --check\n  leafrunt status --json | jq .interfaces[0].neighbor",
     "table": "leafrunt table\n  leafrunt table --json | jq -r '.routes[] | select(.path_type == \"ext2\").prefix'",
     "neighbors": "leafrunt neighbors\n  leafrunt neighbors --json | jq -r '.neighbors[] | select(.state != \"Full\").interface'",
     "interfaces": "leafrunt interfaces\n  leafrunt interfaces --json | jq '.interfaces[] | {name, counters}'",
@@ -137,6 +138,9 @@ def with_own_words(one: argparse.ArgumentParser, name: str) -> None:
     if name in LISTS:
         about = f"for a program: one JSON object, by the schema schemas/{name}.json"
         one.add_argument("--json", action="store_true", help=about)
+    if name == "status":
+        about = "say whether all is well, a line for each complaint; the status is 0, 1 or 2, as Nagios has it"
+        one.add_argument("--check", action="store_true", help=about)
     if name == "database":
         one.add_argument("id", nargs="?", type=address, metavar="ID", help="a Link State ID")
     if name == "why":
@@ -229,6 +233,19 @@ def say(lines: list[str]) -> Status:
     return Status.DONE
 
 
+def status_or_check(words: argparse.Namespace) -> int:
+    """`status`; with `--check` whether the box is well, also if there is none."""
+    if not words.check:
+        return list_what_is_there(words)
+    try:
+        with client_of(words) as client:
+            health, lines = checked(box_status(client))
+    except Stopped as why:
+        health, lines = Health.CRITICAL, [f"LEAFRUNT CRITICAL: {each}" for each in str(why).splitlines()]
+    say(lines)
+    return health
+
+
 def list_what_is_there(words: argparse.Namespace) -> Status:
     with client_of(words) as client:
         lines = listed(client, words)
@@ -287,6 +304,7 @@ COMMANDS = {
     "up": up,
     "console": talk,
     **dict.fromkeys(LISTS, list_what_is_there),
+    "status": status_or_check,
     "watch": follow,
     "metrics": metrics,
     "map": area_map,

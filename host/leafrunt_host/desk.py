@@ -7,6 +7,7 @@ import logging
 import threading
 import time
 from collections.abc import Callable
+from functools import partial
 from ipaddress import IPv4Address, IPv4Network
 
 from leafrunt_host.announcements import Announcements
@@ -17,14 +18,16 @@ from leafrunt_host.capture import Capture
 from leafrunt_host.documents import database_of
 from leafrunt_host.journal import Kept, where_it_failed
 from leafrunt_host.kernel import KernelRoute, kernel_route
+from leafrunt_host.lsas import RouterBody
 from leafrunt_host.observing import Limiter
+from leafrunt_host.offers import offered, router_key
 from leafrunt_host.programs import attached
-from leafrunt_host.router import Router, RouterGone, RouterSilent
+from leafrunt_host.router import LISTS, Router, RouterGone, RouterSilent
 from leafrunt_host.server import Answer, Asked
 from leafrunt_host.status import Known, neighbors_of, status_lines, status_of
 from leafrunt_host.statuses import FAILED, REFUSED, Status, Stopped
 from leafrunt_host.topology import Topology, database_lines, whole_lines
-from leafrunt_host.why import Heard, Why, heard_of, prefix_asked
+from leafrunt_host.why import Heard, Why, heard_of, own_links, prefix_asked
 from leafrunt_host.why_lines import why_lines
 
 log = logging.getLogger("leafrunt.console")
@@ -33,6 +36,8 @@ OF_PROGRAMS = ("attach", "detach")
 OF_ANNOUNCEMENTS = ("add", "withdraw")
 CHANGING = (*OF_PROGRAMS, *OF_ANNOUNCEMENTS, "capture", "reload", "down")
 """What lines that change something begin with: the log has them."""
+SECONDS_FOR_A_LIST = 3.0
+"""How long a list of `routerd` may take: it may be long, and the machine busy."""
 MOST_LOGGED = 100
 """Lines of a minute with the same first word that it has."""
 
@@ -104,11 +109,17 @@ class Desk:
             if asked.line == "down":
                 self._end()
                 return Answer(["ending"], stays=True)
+            self._router.look()
+            if word in LISTS:
+                ask = partial(self._router.ask, asked.line)
+                return Answer(self._router.soon(ask, SECONDS_FOR_A_LIST))
             return Answer(self.passed_on(asked.line, asked.by))
         except (Refused, Stopped) as why:
             return Answer([f"refused: {why}"])
         except RouterGone as why:
             return Answer([f"refused: {why}: the box is ending"])
+        except RouterSilent as why:
+            return Answer([f"refused: {why} (`leafrunt status` says what is known)"])
         except Exception as error:
             # a mistake in this program: the client gets an answer all the same
             log.error("console: %.80r: %s", asked.line, where_it_failed(error))
@@ -156,11 +167,25 @@ class Desk:
     def _status(self, rest: str) -> list[str]:
         if rest not in ("", "json"):
             raise Refused("after `status` comes nothing, or `json`")
-        neighbors = self._router.ask_list("neighbors")
-        if neighbors is not None:
-            self._known.neighbors = neighbors_of(neighbors)
-        status = status_of(self._known, self._topology.counts())
+        silence = None
+        try:
+            neighbors = self._router.soon(partial(self._router.ask_list, "neighbors"))
+            if neighbors is not None:
+                self._known.neighbors = neighbors_of(neighbors)
+        except RouterSilent as why:
+            silence = str(why)
+        status = status_of(self._known, self._topology.counts(), silence, self._offered())
         return [json.dumps(status)] if rest else status_lines(status)
+
+    def _offered(self) -> int | None:
+        """To how many destinations LSAs offer a way, if a program decides on them."""
+        known = self._known
+        if "veto" not in known.programs or not known.configuration.kernel:
+            return None
+        root, (entries, now) = known.configuration.router_id, self._topology.all_entries()
+        said = next((it.body for key, it in entries if key == router_key(root)), None)
+        own = own_links(known, said if isinstance(said, RouterBody) else None)
+        return offered(entries, now, root, own)
 
     def _interfaces(self, rest: str) -> list[str]:
         none_after("interfaces", rest)

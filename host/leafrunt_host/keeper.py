@@ -45,13 +45,15 @@ SECONDS_ABSENT = 0.1
 """A route leaves the kernel once `table` has lacked it for so long. `routerd` takes an event first,
 then asks its programs and calculates what comes of it: between these `table` lacks every route
 that the event touched, some 10 ms long with 10,000 of them."""
+OWN_NETWORK = b" via 0\n"
+"""How a line of `table` ends that is of a network of the router itself."""
 TWO_WAY = ("ExStart", "Exchange", "Loading", "Full")
 """The states of a neighbor that hears this router (RFC 2328, 10.1): on a point-to-point link none
 stays in 2-Way."""
 MOST_STEPS = 3
 """Steps of the clock that are told of."""
 SECONDS_TO_SERVE = 150.0
-"""How long a look may take that is under way: `routerd` answers within 120."""
+"""How long a look may take that is under way: `routerd` answers within 120 s."""
 SECONDS_TO_STOP = 3.0
 """How long the end waits for a look that is under way."""
 
@@ -126,6 +128,7 @@ class Keeper:
         self._thread = threading.Thread(target=self._keep, name="keeper", daemon=True)
         self._pace = Pace(time.monotonic())
         self._table, self._lines = b"", list[bytes]()
+        self._own_networks = 0
         self._neighbors: list[str] = []
         self._own: frozenset[IPv4Network] = frozenset()
         self._announced: object = None
@@ -329,6 +332,7 @@ class Keeper:
         is_changed = table != self._table
         if is_changed:
             self._table, self._lines = table, table.splitlines()
+            self._own_networks = table.count(OWN_NETWORK)
         hops, own = self._hops(), self._own_destinations()
         outcome = kernel.keep(self._lines, hops, own, self._patience())
         self._is_kept.set()
@@ -341,6 +345,7 @@ class Keeper:
             limited=outcome.limited,
             absent=outcome.absent,
             table=len(self._lines),
+            own=self._own_networks,
         )
         change = kernel.table_change()
         if change:

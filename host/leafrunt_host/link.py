@@ -212,6 +212,12 @@ class Link:
             said.append(f"its MTU is {state.mtu} now, and was {self.interface.mtu} at the start")
         return said
 
+    @property
+    def withholds(self) -> bool:
+        """Whether there are LSAs that `routerd` can't have."""
+        with self._lock:
+            return self._withheld.is_withholding
+
     def _of_counters(self, now: float) -> list[str]:
         said = list(self._withheld.remarks(now))
         if self.counters[FAILED]:

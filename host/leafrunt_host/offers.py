@@ -27,6 +27,9 @@ OF_AREA = (LsType.ROUTER, LsType.NETWORK, LsType.ASBR_SUMMARY)
 OF_DESTINATIONS = (LsType.SUMMARY, LsType.EXTERNAL)
 SHORTEST = 24
 """Bytes of an LSA that has a mask after its header."""
+FLAGS = {LsType.SUMMARY: RouterFlags.B, LsType.EXTERNAL: RouterFlags.E}
+"""What a router has to say of itself so that its LSAs of a type count."""
+METRIC, INFINITY = slice(25, 28), LS_INFINITY.to_bytes(3, "big")
 MOST_NEAR = 4
 MOST_BROKEN = 3
 NOT_USED = "not used: "
@@ -60,6 +63,11 @@ class Found:
     """Of the destination, and flushed, or ran out."""
     near: list[tuple[IPv4Network, LsHeader]] = field(default_factory=list)
     """Of longer and shorter prefixes."""
+
+
+def router_key(of: IPv4Address) -> bytes:
+    """The key of a router's own router-LSA."""
+    return bytes([LsType.ROUTER]) + 2 * of.packed
 
 
 def value(address: bytes) -> int:
@@ -116,6 +124,30 @@ def found_around(
     found.here.sort(key=lambda each: each[0].key)
     found.area = area_of((header.key, entry.body) for header, entry in found.here)
     return found
+
+
+def offered(
+    entries: Iterable[tuple[bytes, Entry]], now: float, root: IPv4Address, own: RouterBody
+) -> int:
+    """To how many destinations LSAs offer a way that counts, from the router that has these links
+    on: those of its own links aren't among them."""
+    alive = [each for each in entries if each[1].age_at(now) < MAX_AGE]
+    of_area = [(it.header_at(now).key, it.body) for key, it in alive if key[0] in OF_AREA]
+    area = area_of(of_area)
+    area.routers[root] = own
+    ways, own_key = Ways(area, root), root.packed
+    reached = {each.id for each in ways.cost if each.kind == router(root).kind}
+    flags = {each.packed: area.routers[each].flags for each in reached if each in area.routers}
+    found = set()
+    for key, entry in alive:
+        by, data, flag = key[5:9], entry.data, FLAGS.get(key[0], 0)
+        if key[0] in OF_DESTINATIONS and by != own_key and flags.get(by, 0) & flag:
+            if data[METRIC] != INFINITY and len(data) >= SHORTEST:
+                mask = value(data[20:24])
+                found.add((value(key[1:5]) & mask, mask))
+        elif key[0] in (LsType.ROUTER, LsType.NETWORK) and by in flags and by != own_key:
+            found.update((base & mask, mask) for base, mask in networks_in(key, data))
+    return len(found - {(int(link.id), int(link.data)) for link in own.links if link.type == LinkType.STUB})
 
 
 class Offers:

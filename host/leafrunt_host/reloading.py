@@ -10,6 +10,7 @@ import logging
 import re
 import socket
 import threading
+import time
 from collections.abc import Callable
 from contextlib import ExitStack
 from dataclasses import dataclass, field, replace
@@ -18,6 +19,7 @@ from pathlib import Path
 from leafrunt_host.announcements import Announcements
 from leafrunt_host.announcer import Announcer
 from leafrunt_host.bridge import CannotOpen
+from leafrunt_host.clock import moment_text
 from leafrunt_host.configuration import Configuration, InterfaceSettings, Program
 from leafrunt_host.desk import Desk
 from leafrunt_host.destinations import Owner
@@ -89,13 +91,26 @@ class Reloader:
             raise Stopped("another reload is under way: try again", Status.REFUSED)
         try:
             said = self._taken_over(self.read(self.known.configuration.path))
+            self.known.not_reloaded = None
         except (CannotOpen, CannotKeep) as why:
-            raise Stopped(f"nothing is changed: {why}") from why
+            raise self._refused(Stopped(f"nothing is changed: {why}")) from why
+        except Stopped as why:
+            raise self._refused(why) from why.__cause__
         finally:
             self._one_at_a_time.release()
         for each in said:
             log.info("%s", each)
         return said
+
+    def _refused(self, why: Stopped) -> Stopped:
+        """It stays in the log and in `status` until another reload is done."""
+        first, *more = str(why).splitlines() or [""]
+        several = f" (and {len(more)} more: `leafrunt check`)" if more else ""
+        self.known.not_reloaded = (
+            f"the last reload was refused at {moment_text(time.time())}: {first}{several}"
+        )
+        log.warning("not reloaded: %s%s", first, several)
+        return why
 
     def _taken_over(self, new: Configuration) -> list[str]:
         old = self.known.configuration

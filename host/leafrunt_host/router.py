@@ -26,7 +26,12 @@ NO_LISTS = re.compile(rb"unknown|out of memory|refused \d+")
 ATTACH = "attach "
 LONGEST_LINE = 4096
 SECONDS_TO_ANSWER = 120
+"""A program may have to be verified first, and no other line needs as long."""
+LEAST_PATIENCE = 20.0
+"""Seconds for which an answer to any other line is waited for, at the least."""
 SECONDS_TO_END = 30
+SECONDS_TO_END_SILENT = 3.0
+"""The same of one that has been asked in vain."""
 SECONDS_TO_HEAR = 1.0
 """Whoever looks at a box waits so long for `routerd`."""
 T = TypeVar("T")
@@ -91,9 +96,11 @@ class Router:
         told: Callable[[str], None] = lambda line: None,
         world: World | None = None,
         lends: Callable[[str], AbstractContextManager[str]] = nullcontext,
+        patience: float = LEAST_PATIENCE,
     ) -> None:
-        """`lends` makes an object file readable there, and says by which name."""
-        self._told, self._lends = told, lends
+        """`lends` makes an object file readable there, and says by which name. An answer is waited
+        for as long as `patience`."""
+        self._told, self._lends, self._patience = told, lends, patience
         world = world or World(None)
         self._one_at_a_time = threading.Lock()
         self._is_gone = False
@@ -133,12 +140,12 @@ class Router:
         """Whether it was given up, since it didn't answer."""
         return self._is_gone and self._ran.poll() is None
 
-    def ask(self, line: str, seconds: float = SECONDS_TO_ANSWER) -> list[str]:
+    def ask(self, line: str, seconds: float | None = None) -> list[str]:
         """The lines of the answer as they are; `end`, which closes a list, is one of them."""
         if line.startswith(ATTACH):
             with self._lends(line.removeprefix(ATTACH)) as name:
-                return self._lines(ATTACH + name, seconds)
-        return self._lines(line, seconds)
+                return self._lines(ATTACH + name, seconds or SECONDS_TO_ANSWER)
+        return self._lines(line, seconds or self._patience)
 
     def _lines(self, line: str, seconds: float) -> list[str]:
         first, more = self._asked(line, seconds)
@@ -168,11 +175,17 @@ class Router:
         since = time.monotonic() - asking[1] if asking else 0.0
         return Unanswered(asking[0], since) if asking and since >= seconds else None
 
+    def look(self) -> None:
+        """`RouterSilent` if it doesn't answer what it was asked; a program's verification may take
+        its time."""
+        it = self.unanswered()
+        if it and not it.line.startswith(ATTACH):
+            raise RouterSilent(str(it))
+
     def soon(self, ask: Callable[[], T], seconds: float = SECONDS_TO_HEAR) -> T:
         """What `ask` brings, which asks `routerd`. `RouterSilent` if that takes longer, or another
         line has waited so long already; the answer is then waited for in a thread of its own."""
-        if it := self.unanswered():
-            raise RouterSilent(str(it))
+        self.look()
         answer: Future[T] = Future()
 
         def work() -> None:
@@ -196,7 +209,7 @@ class Router:
             return first, self._answers.up_to(b"end", seconds)
         except TimeoutError:
             self._is_gone = True
-            raise RouterGone(f"routerd has not answered for {seconds} seconds") from None
+            raise RouterGone(f"routerd has not answered for {seconds:g} seconds") from None
         except EOFError:
             self._is_gone = True
             raise RouterGone("routerd has ended") from None
@@ -216,7 +229,7 @@ class Router:
 
     def ask_bytes(self, line: str) -> bytes | None:
         """The same as it came, each line with its line feed: a list may have thousands."""
-        first, more = self._asked(line, SECONDS_TO_ANSWER)
+        first, more = self._asked(line, self._patience)
         if more is None:
             return b"" if first == b"end" else None
         return first + b"\n" + more
@@ -224,6 +237,8 @@ class Router:
     def quit(self, seconds: float = SECONDS_TO_END) -> Ended:
         """Ends it, if it hasn't ended, and waits for it. One that doesn't end by itself, or doesn't
         answer whoever waits for that, is killed, and that is logged."""
+        if self.unanswered() or self.is_silent():
+            seconds = min(seconds, SECONDS_TO_END_SILENT)
         if not self._one_at_a_time.acquire(timeout=seconds):
             log.error("routerd hasn't answered for %d seconds: it is killed", seconds)
             self._ran.kill()

@@ -21,7 +21,7 @@ from leafrunt_host.link import Interface, Link, Watch
 from leafrunt_host.own_lsas import OwnLsas
 from leafrunt_host.places import NO_EXTERNALS, Places
 from leafrunt_host.rooms import Room
-from leafrunt_host.router import Router, RouterGone
+from leafrunt_host.router import LEAST_PATIENCE, Router, RouterGone
 from leafrunt_host.sockets import LOOPBACK, udp_socket
 from leafrunt_host.statuses import Stopped
 
@@ -63,6 +63,12 @@ def sink(port: int) -> socket.socket:
         one.close()
         raise CannotOpen(f"UDP port {port} of {LOOPBACK} can't be had: {error.strerror}") from error
     return one
+
+
+def patience_of(configuration: Configuration) -> float:
+    """For how long `routerd` may answer nothing: after RouterDeadInterval neighbors drop it."""
+    dead = [each.dead_interval for each in configuration.interfaces if not each.passive]
+    return max(LEAST_PATIENCE, min(dead, default=0.0))
 
 
 def interface_of(number: int, each: InterfaceSettings, ports: tuple[int, int]) -> Interface:
@@ -218,7 +224,7 @@ class Starter:
             raise Stopped(f"cannot write {room.configuration}: {error.strerror}") from error
         try:
             lends = room.lent_object if world.account else nullcontext
-            router = Router(program, path, told, world, lends)
+            router = Router(program, path, told, world, lends, patience_of(configuration))
         except OSError as error:
             raise Stopped(f"{program} can't be run: {error.strerror}") from error
         try:

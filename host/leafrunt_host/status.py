@@ -27,6 +27,8 @@ NO_DIAGNOSTIC = diagnostic_text(Diagnostic.NONE)
 SECONDS_TO_LOOK = 10.0
 """After so long a look of the keeper's hangs."""
 NEIGHBOR = re.compile(r"neighbor (\d+) (\S+) (\w+)")
+SILENT = "{}: what is said here is from before"
+ALL_OUT = "the program at veto keeps all routes out: LSAs offer {}, and it lets none in"
 MOST_STOPPED = 64
 """Lines of `routerd` that are kept: one for each interface that it stops to serve."""
 
@@ -64,6 +66,8 @@ class Kept:
     """How many routes are kept for a moment though `routerd`'s table lacks them."""
     table: int = 0
     """How many routes `routerd`'s table has."""
+    own: int = 0
+    """How many of these are the router's own networks."""
 
 
 @dataclass
@@ -93,6 +97,10 @@ class Known:
     """BFD's, if an interface asks for it."""
     table_changes: tuple[tuple[float, TableChange], ...] = ()
     """What changed last of `routerd`'s table, and when."""
+    not_reloaded: str | None = None
+    """Why the last reload was refused, and when; None once another one is done."""
+    file_fault: str | None = None
+    """Why a box wouldn't start with the configuration's file as it is now."""
     looked: float | None = None
     """When the keeper's last look ended, by the clock that nobody sets."""
 
@@ -135,6 +143,7 @@ def remarks_of(known: Known, now: float) -> list[str]:
     if refused and known.refusal and not (said and known.refusal.is_of_clock):
         said.insert(0, refused)
     said += known.not_announced
+    said += [each for each in (known.not_reloaded, known.file_fault) if each]
     if known.looked is not None and now - known.looked > SECONDS_TO_LOOK:
         said.append(
             f"no look at `routerd` and the kernel's table has ended for {now - known.looked:.0f} s: "
@@ -195,11 +204,24 @@ def interface_status(known: Known, number: int, each: InterfaceSettings) -> Json
     return said
 
 
+def is_whole(known: Known) -> bool:
+    """Whether each interface that isn't passive has a Full neighbor, and the kernel all routes."""
+    active = {
+        number
+        for number, each in enumerate(known.configuration.interfaces, 1)
+        if not each.passive
+    }
+    full = {each.number for each in known.neighbors.values() if each.state == "Full"}
+    kept = known.kept
+    is_kept = not (kept.error or kept.refused or kept.without_hop)
+    return active <= full and is_kept and not any(it.withholds for it in known.links.values())
+
+
 def at_rest_since(known: Known) -> float | None:
     """The moment, in seconds since 1970, from which on all neighbors have been Full, owed nothing
-    and were owed nothing; None if one isn't, or does, or there is none, or `routerd` refuses what
-    happens."""
-    if known.refusal and known.refusal.until is None:
+    and were owed nothing; None if one isn't, or does, or an interface has none, or `routerd` refuses
+    what happens, or something of it doesn't come to the kernel."""
+    if (known.refusal and known.refusal.until is None) or not is_whole(known):
         return None
     began = []
     for neighbor in known.neighbors.values():
@@ -222,10 +244,35 @@ def table_status(known: Known) -> Json:
     return {"routes": known.kept.table, "changes": changes}
 
 
-def status_of(known: Known, lsas: Mapping[str, int] | None = None) -> Json:
-    """The whole, as values that JSON has; `lsas` says how many LSAs of each type there are."""
+def program_documents(known: Known) -> list[Json]:
+    """The programs at the hooks."""
+    return [
+        {
+            "hook": hook,
+            "object": it.object,
+            "bound_instructions": it.bound,
+            "attached_by": it.origin,
+            "attached_at": it.at,
+        }
+        for hook, it in sorted(known.programs.items())
+    ]
+
+
+def status_of(
+    known: Known,
+    lsas: Mapping[str, int] | None = None,
+    silence: str | None = None,
+    offered: int | None = None,
+) -> Json:
+    """The whole, as values that JSON has; `lsas` says how many LSAs of each type there are,
+    `silence` that `routerd` doesn't answer, and `offered` to how many destinations LSAs offer a
+    way, if a program decides on these."""
     configuration = known.configuration
     kept = known.kept
+    let_in = kept.table - kept.own
+    all_out = known.looked is not None and bool(offered) and let_in <= 0
+    head = [SILENT.format(silence)] if silence else []
+    head += [ALL_OUT.format(offered)] if all_out else []
     return {
         "schema": schema_of("status"),
         "box": configuration.name,
@@ -235,6 +282,7 @@ def status_of(known: Known, lsas: Mapping[str, int] | None = None) -> Json:
             "pid": known.routerd,
             "stopped": list(known.stopped),
             "refusal": known.refusal.document() if known.refusal else None,
+            "unanswered": silence,
         },
         "kernel": {
             "kept": configuration.kernel,
@@ -248,10 +296,16 @@ def status_of(known: Known, lsas: Mapping[str, int] | None = None) -> Json:
             "error": kept.error,
         },
         "table": table_status(known) if configuration.kernel else None,
+        "veto": None if offered is None else {"offered": offered, "let_in": max(0, let_in)},
+        "programs": program_documents(known),
         "lsas": dict(lsas or {}),
-        "at_rest_since": at_rest_since(known),
+        "at_rest_since": None if head else at_rest_since(known),
         "counter_names": dict(configuration.counters),
-        "warnings": [*remarks_of(known, time.monotonic()), *warnings_of(configuration)],
+        "warnings": [
+            *head,
+            *remarks_of(known, time.monotonic()),
+            *warnings_of(configuration),
+        ],
         "interfaces": [
             interface_status(known, number, each)
             for number, each in enumerate(configuration.interfaces, 1)
@@ -324,6 +378,13 @@ def interface_lines(each: Json) -> list[str]:
     return [f"{head}: {state}", *session, *remark_lines(each["name"], each["remarks"])]
 
 
+def program_line(program: Json) -> str:
+    return (
+        f"program at {program['hook']}: {program['object']}, attached {program['attached_by']} at "
+        f"{moment_text(program['attached_at'])}, bound {program['bound_instructions']}"
+    )
+
+
 def status_lines(status: Json) -> list[str]:
     """The same for a reader."""
     began = moment_text(status["since"])
@@ -332,6 +393,10 @@ def status_lines(status: Json) -> list[str]:
     ]
     lines += [f"routerd: {each}" for each in status["routerd"]["stopped"]]
     lines.append(kernel_line(status["kernel"]))
+    lines += map(program_line, status["programs"])
+    if status["veto"]:
+        it = status["veto"]
+        lines.append(f"veto: LSAs offer {it['offered']} routes, and it lets {it['let_in']} in")
     lines += [f"warning: {each}" for each in status["warnings"]]
     for each in status["interfaces"]:
         lines += interface_lines(each)

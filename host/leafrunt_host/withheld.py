@@ -295,6 +295,10 @@ class Withheld:
             "routes are missing. Withdraw external destinations where they are announced"
         )
 
+    @property
+    def is_withholding(self) -> bool:
+        return bool(self._above) or any(not it.is_gone for it in self._unread.values())
+
     def remarks(self, now: float) -> Iterator[str]:
         """What is withheld, and what `routerd` waits for, for `status`."""
         told = [(key, it.why) for key, it in self._unread.items() if not it.is_gone]

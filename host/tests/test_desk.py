@@ -2,6 +2,7 @@
 import json
 import logging
 import os
+import signal
 import struct
 import sys
 import tempfile
@@ -13,6 +14,7 @@ from dataclasses import dataclass, field, replace
 from ipaddress import IPv4Address, IPv4Interface, IPv4Network
 from pathlib import Path
 from types import SimpleNamespace
+from typing import Any
 from unittest import mock
 
 from leafrunt_host import capture as captures
@@ -22,13 +24,15 @@ from leafrunt_host.configuration import Configuration, InterfaceSettings
 from leafrunt_host.desk import Desk
 from leafrunt_host.destinations import Announcement
 from leafrunt_host.exchange import Side
+from leafrunt_host.health import checked
 from leafrunt_host.journal import Kept as KeptLog
 from leafrunt_host.journal import one_line
 from leafrunt_host.kernel_settings import KernelSettings
 from leafrunt_host.observing import Adjacencies, Report
 from leafrunt_host.owed import Owed
 from leafrunt_host.packets import lsas_of
-from leafrunt_host.router import LONGEST_LINE, Router, RouterGone
+from leafrunt_host.programs import Attached
+from leafrunt_host.router import LONGEST_LINE, Router, RouterGone, RouterSilent
 from leafrunt_host.server import Asked, who_is
 from leafrunt_host.status import (
     Kept,
@@ -53,6 +57,7 @@ class StandInLink:
     said: list[Report]
     counters: Counter[str] = field(default_factory=lambda: Counter({"in": 3}))
     owed: Owed = field(default_factory=Owed)
+    withholds: bool = False
 
     def reports(self, _now: float) -> list[Report]:
         return self.said
@@ -105,6 +110,33 @@ class Rests(unittest.TestCase):
             self.assertIsNone(status["at_rest_since"])
             self.assertNotIn("at rest", "".join(status_lines(status)))
 
+    def test_not_at_rest_though_all_neighbors_are_full(self) -> None:
+        """An interface has none, an LSA is withheld, a route isn't in the kernel, a program keeps all
+        out, or `routerd` doesn't answer."""
+        full = ("neighbor 1 2.2.2.2 Full",)
+        self.assertIsNotNone(status_of(known(neighbors=full))["at_rest_since"])
+        lonely, withholding, refused, lost, unkept = (known(neighbors=full) for _ in range(5))
+        one = lonely.configuration.interfaces
+        more = (*one, interface("eth2", "10.0.3.1/24"))
+        lonely.configuration = replace(lonely.configuration, interfaces=more)
+        withholding.links[1].withholds = True
+        refused.kept = Kept(refused=("10.0.0.0/8 via 10.0.1.2 dev eth1: File exists",))
+        lost.kept = Kept(without_hop=(b"10.0.0.0/8",))
+        unkept.kept = Kept(error="no ip")
+        for it in (lonely, withholding, refused, lost, unkept):
+            self.assertIsNone(status_of(it)["at_rest_since"])
+        it = known(neighbors=full)
+        self.assertIsNone(status_of(it, silence="routerd hasn't answered")["at_rest_since"])
+        it.looked, it.kept = time.monotonic(), Kept(table=3, own=3)
+        status = status_of(it, offered=8)
+        self.assertIsNone(status["at_rest_since"])
+        lines = status_lines(status)
+        self.assertIn("veto: LSAs offer 8 routes, and it lets 0 in", lines)
+        said = "warning: the program at veto keeps all routes out: LSAs offer 8, and it lets none in"
+        self.assertIn(said, lines)
+        it.kept = Kept(table=4, own=3)
+        self.assertIsNotNone(status_of(it, offered=8)["at_rest_since"])
+
 
 class Statuses(unittest.TestCase):
     def lines(self, it: Known) -> list[str]:
@@ -123,6 +155,41 @@ class Statuses(unittest.TestCase):
             r"^eth1: 10\.0\.1\.1/24, MTU 1500: 2\.2\.2\.2 \(10\.0\.1\.2\) Full since \d{4}-",
         )
         self.assertEqual(lines[3:-1], ["lan0: 10.0.2.1/24, MTU 1500: passive"])
+
+    def test_programs_and_refused_reloads(self) -> None:
+        it = known()
+        it.programs = {"veto": Attached("/v.o", 5, "root", 1e9), "tag": Attached("/t.o", 6, "", 1e9)}
+        it.not_reloaded = "the last reload was refused at 02:14: no"
+        lines = self.lines(it)
+        self.assertRegex(lines[1], r"^program at tag: /t\.o, attached by the configuration at 2001-")
+        self.assertRegex(lines[2], r"^program at veto: /v\.o, attached at the console by root at .*, bound 5$")
+        self.assertIn(it.not_reloaded, status_of(it)["warnings"])
+
+    def test_health(self) -> None:
+        """0, 1 and 2, as Nagios takes them, and a line for each complaint."""
+        def health(it: Known, **named: Any) -> tuple[int, list[str]]:
+            status = json.loads(json.dumps(status_of(it, **named)))
+            status["warnings"] = [each for each in status["warnings"] if "take care" not in each and "sysctl" not in each]
+            return checked(status)
+
+        full = ("neighbor 1 2.2.2.2 Full",)
+        good = "LEAFRUNT OK: box one: 1 neighbors are Full, 7 routes in the kernel"
+        it = known(Report("eth1", TWO, THERE, 1.0), neighbors=full)
+        it.kept = Kept(7)
+        self.assertEqual(health(it), (0, [good]))
+        it.kept = Kept(7, ("10.0.0.0/8: File exists",), (b"11.0.0.0/8",))
+        status, lines = health(it)
+        self.assertEqual(status, 1)
+        self.assertEqual(lines[0], "LEAFRUNT WARNING: box one: the kernel refuses 10.0.0.0/8: File exists (and 1 more)")
+        self.assertEqual(lines[1:], ["WARNING: the kernel refuses 10.0.0.0/8: File exists", "WARNING: 1 routes without a known next hop"])
+        lonely = known(Report("eth1", reasons=("down: no carrier",)))
+        self.assertEqual(health(lonely)[1][1:], ["CRITICAL: no neighbor is Full", "WARNING: eth1: no neighbor: down: no carrier"])
+        self.assertEqual(health(lonely)[0], 2)
+        silent = health(known(neighbors=full), silence="routerd hasn't answered `table` for 9 s")
+        self.assertEqual(silent, (2, ["LEAFRUNT CRITICAL: box one: routerd hasn't answered `table` for 9 s", "CRITICAL: routerd hasn't answered `table` for 9 s"]))
+        it = known(neighbors=full)
+        it.looked = time.monotonic()
+        self.assertEqual(health(it, offered=3)[1][1:], ["CRITICAL: the program at veto keeps all routes out"])
 
     def test_a_state_that_is_new(self) -> None:
         """The moment of the state before isn't told of this one."""
@@ -202,7 +269,11 @@ class Lines(unittest.TestCase):
     def setUp(self) -> None:
         self.known, self.woken = known(), list[str]()
         self.answers = {"attach /v.o": "attached veto bound 5", "add 10.0.0.0/8 1 2 0": "originated"}
-        router = SimpleNamespace(ask=lambda line: [self.answers.get(line, "unknown")])
+        router = SimpleNamespace(
+            ask=lambda line: [self.answers.get(line, "unknown")],
+            look=lambda: None,
+            soon=lambda ask, _seconds: ask(),
+        )
         announcements = SimpleNamespace(by_hand=lambda line: self.answers.get(line, "refused 5"))
         parts = (self.known, router, announcements, None, None, KeptLog())
         self.desk = Desk(*parts, end=lambda: None, wake=lambda: self.woken.append("woken"))
@@ -372,6 +443,47 @@ class Routers(unittest.TestCase):
         asker.join()
         self.assertEqual((ended.status, gone), (-9, ["routerd has ended"]))
         self.assertLess(time.monotonic() - began, 15)
+
+    def test_one_that_stands_still(self) -> None:
+        """Who asks is told within a second, and it is given up after its patience; what it answers
+        in time is no one else's answer."""
+        router = Router(self.program, self.configuration, patience=3)
+        self.assertIsNone(router.unanswered(0))
+        os.kill(router.pid, signal.SIGSTOP)
+        began = time.monotonic()
+        with self.assertRaisesRegex(RouterSilent, "^routerd hasn't answered `neighbors` for"):
+            router.soon(lambda: router.ask("neighbors"), 0.3)
+        self.assertLess(time.monotonic() - began, 1)
+        time.sleep(1)
+        began = time.monotonic()
+        self.assertRaises(RouterSilent, router.soon, lambda: router.ask("table"))
+        self.assertRaises(RouterSilent, router.look)
+        self.assertLess(time.monotonic() - began, 0.3)
+        os.kill(router.pid, signal.SIGCONT)
+        time.sleep(0.5)
+        self.assertEqual(router.soon(lambda: router.ask("counters")), ["counter 5 6", "end"])
+        os.kill(router.pid, signal.SIGSTOP)
+        began = time.monotonic()
+        self.assertRaises(RouterGone, router.ask, "neighbors")
+        self.assertTrue(2.9 < time.monotonic() - began < 6)
+        self.assertTrue(router.is_silent())
+        began = time.monotonic()
+        with self.assertLogs("leafrunt.router", "ERROR"):
+            self.assertEqual(router.quit().status, -9)
+        self.assertLess(time.monotonic() - began, 6)
+
+    def test_a_program_that_is_verified(self) -> None:
+        """That may take its time, and isn't silence."""
+        router = Router(self.program, self.configuration, patience=0.2)
+        asker = threading.Thread(target=lambda: router.ask("attach /silent", 2), daemon=True)
+        with mock.patch("threading.excepthook"):
+            asker.start()
+            time.sleep(1.2)
+            self.assertIsNotNone(router.unanswered())
+            router.look()
+            with self.assertLogs("leafrunt.router", "ERROR"):
+                router.quit(0.1)
+            asker.join()
 
     def test_errors_without_an_end(self) -> None:
         """Of one that was taken over: they fill no log and no memory, also without line feeds."""

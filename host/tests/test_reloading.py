@@ -671,6 +671,25 @@ class Taking(unittest.TestCase):
         self.assertEqual(it.reloader.reload(), ["/a.o: attached veto bound 9"])
         self.assertEqual(it.reloader.reload(), ["nothing differs"])
 
+    def test_a_refused_one_is_remembered(self) -> None:
+        """Until one is done: whoever looks at three in the morning has no other way to know."""
+        one, two = configuration().interfaces
+        it = self.fakes(configuration(one, two))
+        it.known.not_reloaded = None
+
+        def broken(_path: Path) -> Configuration:
+            raise Stopped("one.toml: cost: found 0\none.toml: name: found 1", Status.REFUSED)
+
+        read, it.reloader.read = it.reloader.read, broken
+        with self.assertLogs("leafrunt.reload", "WARNING"), self.assertRaises(Stopped) as stopped:
+            it.reloader.reload()
+        self.assertEqual(stopped.exception.status, Status.REFUSED)
+        said = r"^the last reload was refused at \d{4}-.*: one.toml: cost: found 0 \(and 1 more"
+        self.assertRegex(it.known.not_reloaded, said)
+        it.reloader.read = read
+        it.reloader.reload()
+        self.assertIsNone(it.known.not_reloaded)
+
     def test_what_a_new_routerd_gets(self) -> None:
         """The programs of the file as it is now, but those of the console where it has others; one
         that was detached there stays so while the file doesn't change."""

@@ -80,7 +80,6 @@ def why(given: Try) -> None:
     of_the_kernel(given, box)
     of_lsas(given, box, bird)
     broken(given, box, bird, frr)
-    hung(given, box)
     for router in (box, bird, frr):
         router.stop()
 
@@ -185,13 +184,56 @@ def broken(given: Try, box: Box, bird: Bird, frr: Frr) -> None:
     within(COMES_UP, lambda: PLAIN in box.kernel_routes())
 
 
-def hung(given: Try, box: Box) -> None:
-    """`routerd` stands still: what is known is said at once."""
-    routerd = int(box.status().splitlines()[0].rpartition(" ")[2])
-    os.kill(routerd, signal.SIGSTOP)
-    time.sleep(2)
+def silent(given: Try) -> None:
+    """`routerd` stands still: each command says so within a second, the log after five; nothing is lost
+    where it goes on in time, and else the box ends in order, behind RouterDeadInterval."""
+    network, looks = given.network, given.looks
+    own, near = (network.namespace(each) for each in ("own", "near"))
+    network.link(End(own, "eth1", "10.0.1.1/24"), End(near, "eth1", "10.0.1.2/24"))
+    slow = Side("eth1", hello=10, dead=40)
+    bird = Bird(network, near, "2.2.2.2", [slow])
+    bird.externals = [PLAIN]
+    box = Box(network, given.routerd, own, "silent", "1.1.1.1", [slow])
+    for each in (bird, box):
+        each.start()
+    looks.timed("Full at HelloInterval 10, with its route", 60, lambda: PLAIN in box.kernel_routes())
+    time.sleep(6)  # (until it is at rest)
+    healthy, said, _ = box.answers("status", "--check")
+    looks.look("`leafrunt status --check` finds nothing worse than a warning", healthy < 2, said.splitlines()[0])
+    stand_still(given, box, 20)
+    looks.look("after 20 s at RouterDeadInterval 40 the neighbor is Full", is_full(bird, "1.1.1.1"))
+    looks.look("and the route is there", PLAIN in box.kernel_routes())
+    lost = [each for each in box.log_lines() if "Full ->" in each]
+    looks.look("the log has no loss", not lost, "; ".join(lost))
+    looks.timed("the log says that it answers again", 5, lambda: "routerd answers again" in box.log.read_text())
+    os.kill(routerd_of(box), signal.SIGSTOP)
     began = time.monotonic()
-    asked(given, box, "routerd hangs", PLAIN, "routerd hasn't answered `", f"kernel: {PLAIN} via 10.0.1.2")
+    status = box.wait(80)
     took = time.monotonic() - began
-    given.looks.look("within a second", took < 1, f"{took:.2f} s")
-    os.kill(routerd, signal.SIGCONT)
+    looks.look("one that stands still is ended behind 40 s, status 3", status == 3 and 38 < took < 60, f"{status}, after {took:.0f} s")
+    looks.look("its routes are gone", not box.kernel_routes())
+    bird.stop()
+
+
+def routerd_of(box: Box) -> int:
+    return int(box.says("status")[0].rpartition(" ")[2])
+
+
+def stand_still(given: Try, box: Box, seconds: float) -> None:
+    looks, routerd, began = given.looks, routerd_of(box), time.monotonic()
+    os.kill(routerd, signal.SIGSTOP)
+    try:
+        time.sleep(1.6)
+        asked(given, box, "routerd hangs", PLAIN, "routerd hasn't answered `", f"kernel: {PLAIN} via")
+        for line in ("status", "status json", f"why {PLAIN}", "table", "neighbors", "counters", "add 10.0.0.0/8 1 2 0"):
+            before = time.monotonic()
+            said = "\n".join(box.says(line))
+            took = time.monotonic() - before
+            looks.look(f"`{line}` says so within a second", "routerd hasn't answered" in said and took < 1, f"{took:.2f} s: {said[:60]!r}")
+        health, said, _ = box.answers("status", "--check")
+        looks.look("`leafrunt status --check`: 2", health == 2, said.splitlines()[0] if said else "")
+        looks.timed("the log says so after 5 s", 8, lambda: "s: it is waited for" in box.log.read_text())
+        time.sleep(max(0.0, began + seconds - time.monotonic()))
+    finally:
+        os.kill(routerd, signal.SIGCONT)
+    time.sleep(2)
