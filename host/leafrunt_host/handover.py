@@ -148,8 +148,9 @@ class Handover:
     def _taken_over(self, fresh: Fresh, new: Configuration, programs: dict[str, str]) -> Prepared:
         """Once it has come to where the old one is."""
         kept = self._kept(new)
+        owed = {each.after: each.link.owed for each in kept}
         rehearsal = Rehearsal(
-            fresh, self._hellos(kept, new), self.topology, new.router_id, self.ending
+            fresh, self._hellos(kept, new), self.topology, new.router_id, self.ending, owed
         )
         try:
             rehearsal.come_to_full()
@@ -158,6 +159,7 @@ class Handover:
             if self._is_to_find_all(new, programs):
                 old = self.parts.router
                 rehearsal.find(lambda: prefixes_of(old.ask_list("table") or []))
+            rehearsal.owe()
             self.parts.bridge.work.do(lambda: self._swap(fresh, new, kept, rehearsal))
         finally:
             rehearsal.close()
@@ -245,7 +247,10 @@ class Handover:
         pairs: list[tuple[Link, Interface]] = [
             (each.link, interfaces[each.after]) for each in kept
         ]
+        self.parts.bridge.settle()
         rehearsal.catch_up()
+        if unowed := rehearsal.unowed():
+            raise Stopped(f"a neighbor hasn't acknowledged {len(unowed)} LSAs: try again")
         with self._no_way_back():
             self.parts.bridge.hand_over(pairs, list(made.values()), fresh.udp, fresh.listed)
             for each in self.parts.sinks.values():

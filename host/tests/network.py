@@ -177,6 +177,7 @@ class Side:
     """None says nothing of it, where that differs."""
     cost: int = 10
     bfd: Bfd | None = None
+    retransmit: int = RETRANSMIT_INTERVAL
 
 
 SHA = Secret(5, "hmac sha256", "a secret for BIRD")
@@ -514,7 +515,7 @@ class Bird:
     def _interface(self, side: Side) -> str:
         if side.is_passive:
             return f'interface "{side.name}" {{ stub; }};'
-        said = f"hello {side.hello}; dead {side.dead}; retransmit {RETRANSMIT_INTERVAL};"
+        said = f"hello {side.hello}; dead {side.dead}; retransmit {side.retransmit};"
         said += f" cost {side.cost};"
         if side.keys:
             keys = " ".join(key.of_bird() for key in side.keys)
@@ -601,7 +602,7 @@ class Frr:
             return [*lines, "ip ospf passive", "exit"]
         lines += ["ip ospf network point-to-point", f"ip ospf hello-interval {side.hello}"]
         lines += [f"ip ospf dead-interval {side.dead}"]
-        lines += [f"ip ospf retransmit-interval {max(RETRANSMIT_INTERVAL, 3)}"]
+        lines += [f"ip ospf retransmit-interval {max(side.retransmit, 3)}"]
         if side.keys:
             lines.append("ip ospf authentication message-digest")
             lines += [
@@ -704,7 +705,7 @@ class Box:
         for side in self.sides:
             lines += ["", "[[interface]]", f'name = "{side.name}"']
             lines += [f"hello_interval = {side.hello}", f"dead_interval = {side.dead}"]
-            lines += [f"retransmit_interval = {RETRANSMIT_INTERVAL}", f"cost = {side.cost}"]
+            lines += [f"retransmit_interval = {side.retransmit}", f"cost = {side.cost}"]
             if side.is_passive is not None:
                 lines.append(f"passive = {str(side.is_passive).lower()}")
             if side.keys:

@@ -67,6 +67,14 @@ class Debt(unittest.TestCase):
                 left = self.after(side, updates(EXTERNAL), acknowledgment(LATER))
                 self.assertEqual(left[0], owes[0] // 2)
 
+    def test_flushed(self) -> None:
+        """An acknowledgment of the instance before it was flushed isn't one of that (13.1)."""
+        flushed = b"\x0e\x10" + EXTERNAL[2:]
+        self.after(Side.ROUTER, updates(EXTERNAL), updates(flushed))
+        self.assertEqual(self.after(Side.WIRE, acknowledgment(EXTERNAL))[0], 1)
+        self.assertEqual(self.owed.by_neighbor, {EXTERNAL[3:12]})
+        self.assertEqual(self.after(Side.WIRE, acknowledgment(flushed)), NOTHING)
+
     def test_requests(self) -> None:
         """What was asked for isn't to be acknowledged."""
         self.assertEqual(self.after(Side.ROUTER, request(EXTERNAL, OTHER)), Debts(0, 2, 0, 0))

@@ -754,7 +754,7 @@ class Handing(unittest.TestCase):
         )
         self.keeper, self.desk = mock.Mock(), mock.Mock(changing=threading.Lock())
         self.keeper.serve = mock.Mock(side_effect=self.serve)
-        self.is_stuck = lambda: False
+        self.is_stuck, self.unowed = lambda: False, list[bytes]()
         self.announcements, self.ending = mock.Mock(), threading.Event()
         self.handover = Handover(
             *(mock.Mock(begin_beside=lambda *_: self.fresh), self.parts, self.known, self.keeper),
@@ -767,10 +767,12 @@ class Handing(unittest.TestCase):
             raise Stopped("no answer within 10 seconds: nothing more is done")
         changed()
 
-    def run_it(self) -> None:
+    def run_it(self, *interfaces: InterfaceSettings) -> mock.Mock:
+        """The rehearsal."""
         with mock.patch("leafrunt_host.handover.Rehearsal") as made:
-            made.return_value = mock.Mock(numbers=set())
-            self.handover.run(configuration(), dict)
+            made.return_value = mock.Mock(numbers=set(), unowed=lambda: self.unowed)
+            self.handover.run(configuration(*interfaces), dict)
+            return made.return_value
 
     def assert_complete(self) -> None:
         """All go by the new one, and the old one has ended, once."""
@@ -784,6 +786,14 @@ class Handing(unittest.TestCase):
         self.run_it()
         self.keeper.serve.assert_called_once()
         self.assert_complete()
+
+    def test_what_nobody_would_owe(self) -> None:
+        """The old one goes on, and owes it."""
+        self.unowed = [bytes(9)]
+        with self.assertRaisesRegex(Stopped, "a neighbor hasn't acknowledged 1 LSAs: try again"):
+            self.run_it()
+        self.assertEqual((self.ended, self.given_up), ([self.new], []))
+        self.bridge.hand_over.assert_not_called()
 
     def test_a_look_that_waits_for_the_old_one(self) -> None:
         """That ends, and so does the look: the new one is served then."""
