@@ -218,11 +218,13 @@ class Handover:
         return Prepared(found, given)
 
     def _is_to_find_all(self, new: Configuration, programs: dict[str, str]) -> bool:
-        """Whether it has to have the same destinations: the same interfaces and programs."""
-        old = self.known.configuration
-        names = [[each.name for each in one.interfaces] for one in (old, new)]
+        """Whether it has to have the same destinations: the same networks, neighbors, programs."""
+        ends = [
+            [(each.name, each.address, each.passive) for each in one.interfaces]
+            for one in (self.known.configuration, new)
+        ]
         before = {hook: it.object for hook, it in self.known.programs.items()}
-        return names[0] == names[1] and programs == before and bool(self.known.neighbors)
+        return ends[0] == ends[1] and programs == before and bool(self.known.neighbors)
 
     def _swap(
         self, fresh: Fresh, new: Configuration, kept: list[Kept], rehearsal: Rehearsal

@@ -787,6 +787,20 @@ class Handing(unittest.TestCase):
         self.keeper.serve.assert_called_once()
         self.assert_complete()
 
+    def test_what_it_has_to_find(self) -> None:
+        """All that the old one has, but where an interface is another one: nobody else may announce
+        the network that it had, or what was behind it."""
+        one, two = configuration().interfaces
+        for other, is_to_find in (
+            (replace(two, cost=20), True),
+            (replace(two, passive=True), False),
+            (settings("eth2", "10.0.9.1/24"), False),
+            (settings("eth3", "10.0.2.1/24"), False),
+        ):
+            self.setUp()
+            self.known.neighbors = {1: None}
+            self.assertEqual(self.run_it(one, other).find.called, is_to_find, other)
+
     def test_what_nobody_would_owe(self) -> None:
         """The old one goes on, and owes it."""
         self.unowed = [bytes(9)]

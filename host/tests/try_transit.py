@@ -261,6 +261,7 @@ def reload(given: Try) -> None:
                     wrong_file,
                     intervals_change,
                     interface_comes,
+                    address_changes,
                     many_changes,
                 ):
                     change(it, given)
@@ -517,6 +518,25 @@ def interface_comes(it: Transit, given: Try) -> None:
             )
 
         nothing_lost(it, given, f"an interface {what}", changes)
+
+
+def address_changes(it: Transit, given: Try) -> None:
+    """Of the interface that is passive: nobody else announces its old network."""
+    tried = it.spaces["tried"]
+    for old, new in (("10.0.5", "10.0.6"), ("10.0.6", "10.0.5")):
+
+        def changes() -> None:
+            run("ip", "-n", tried, "addr", "add", f"{new}.1/24", "dev", "lan")
+            run("ip", "-n", tried, "addr", "del", f"{old}.1/24", "dev", "lan")
+            is_taken = changed(it, it.sides, (EXTERNAL,))
+            given.looks.look(f"{it.kind}: it takes {new}.1 in place of {old}.1", is_taken)
+            given.looks.timed(
+                f"{it.kind}: its old network goes, the new one comes",
+                20,
+                lambda: f"{old}.0/24" not in at_left(it) and f"{new}.0/24" in at_left(it),
+            )
+
+        nothing_lost(it, given, "an interface's address changes", changes)
 
 
 def many_changes(it: Transit, given: Try) -> None:
