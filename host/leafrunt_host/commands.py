@@ -3,8 +3,10 @@ from __future__ import annotations
 
 import argparse
 import io
+import logging
 import os
 import sys
+import time
 from contextlib import AbstractContextManager, closing
 from dataclasses import replace
 from ipaddress import IPv4Address, IPv4Network
@@ -195,6 +197,11 @@ def up(words: argparse.Namespace) -> Status:
         return replace(read, log_level=words.log_level) if words.log_level else read
 
     configuration = read_again(words.config)
+    if not configuration.interfaces:
+        logging.getLogger("leafrunt.box").warning("none of the interfaces is there: the first one is waited for")
+    while not configuration.interfaces:
+        time.sleep(1.0)
+        configuration = read_again(words.config)
     run, state = words.run_directory.absolute(), words.state_directory.absolute()
     return Box(
         configuration,
@@ -216,7 +223,7 @@ def check(words: argparse.Namespace) -> Status:
 def checked_lines(path: Path, configuration: Configuration) -> list[str]:
     from leafrunt_host.status import warnings_of
 
-    names = ", ".join(f"{each.name} {each.address}" for each in configuration.interfaces)
+    names = ", ".join(f"{each.name} {each.address}" for each in configuration.interfaces) or "none"
     said = f"{path}: nothing is wrong: router {configuration.router_id} at {names}"
     return [said, *(f"warning: {each}" for each in warnings_of(configuration))]
 

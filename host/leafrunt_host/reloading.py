@@ -114,6 +114,8 @@ class Reloader:
 
     def _taken_over(self, new: Configuration) -> list[str]:
         old = self.known.configuration
+        if not new.interfaces:
+            raise Stopped("none of its interfaces is there", Status.REFUSED)
         new = in_order_of(new, old)
         obstacles = list(another_router(old, new))
         if obstacles:

@@ -11,6 +11,7 @@ from unittest import mock
 from leafrunt_host.configuration import (
     Configuration,
     Mistaken,
+    matches,
     object_hook,
     read_configuration,
     verdict_of,
@@ -31,7 +32,6 @@ KERNEL = {
     "same": KernelInterface("same", 1500, (IPv4Interface("10.0.1.1/30"),)),
     "lo": KernelInterface("lo", 65536, (IPv4Interface("10.255.0.1/32"),)),
 }
-NAMES = "bare, eth1, eth2, lo, same, thin"
 TOP = 'router_id = "1.1.1.1"\nrouterd = "routerd"\n'
 INTERFACE = '[[interface]]\nname = "eth1"\n'
 WHOLE = f"""{TOP}kernel = false
@@ -85,7 +85,7 @@ TOML = "TOML 1.0, as toml.io describes it"
 TOP_KEYS = "router_id, isolated, user, routerd, kernel, log_level, passive, interface, announce, program, counters, redistribute"
 INTERFACE_KEYS = "name, passive, address, cost, hello_interval, dead_interval, retransmit_interval, transmit_delay, keys, bfd, peer"
 OF_ETH1 = "interface 1 (eth1), "
-KERNEL_NAMES = f"the name of an interface of the kernel: {NAMES}"
+NAME = "the name of an interface, or a pattern of names: at most 15 bytes, no space, / or :"
 KNOWN_KEYS = "names of keys: new, old"
 PRIVATE = "a file of keys that only its owner can read"
 
@@ -194,15 +194,15 @@ MISTAKES = [
     (TOP + 'interface = ["eth1"]\n', (("interface", '"eth1"', TABLES.format("interface")),)),
     (TOP + "[interface]\n", (("interface", "a table", TABLES.format("interface")),)),
     (TOP + "interface = []\n", (("interface", "nothing", "1 to 63 tables [[interface]]"),)),
-    (TOP + "[[interface]]\n", (("interface 1, name", "nothing", KERNEL_NAMES),)),
-    (TOP + "[[interface]]\nname = 1\n", (("interface 1, name", "1", KERNEL_NAMES),)),
-    (
-        TOP + '[[interface]]\nname = "eth9"\n',
-        (("interface 1 (eth9), name", '"eth9", which the kernel doesn\'t have', KERNEL_NAMES),),
-    ),
+    (TOP + "[[interface]]\n", (("interface 1, name", "nothing", NAME),)),
+    (TOP + "[[interface]]\nname = 1\n", (("interface 1, name", "1", NAME),)),
     (
         TOP + '[[interface]]\nname = "a b; reboot"\n',
-        (("interface 1, name", '"a b; reboot", which the kernel doesn\'t have', KERNEL_NAMES),),
+        (("interface 1, name", '"a b; reboot"', NAME),),
+    ),
+    (
+        TOP + '[[interface]]\nname = "eth*"\naddress = "10.0.1.1/24"\n',
+        (("interface 1 (eth*), address", '"10.0.1.1/24"', "none for a pattern of names"),),
     ),
     (
         TOP + INTERFACE + INTERFACE,
@@ -221,16 +221,6 @@ MISTAKES = [
                 "interface 2 (same), address",
                 "10.0.1.1/30, which eth1 has too",
                 "an address of each interface's own",
-            ),
-        ),
-    ),
-    (
-        TOP + '[[interface]]\nname = "bare"\n',
-        (
-            (
-                "interface 1 (bare), name",
-                '"bare", which has no IPv4 address',
-                "an interface that has one",
             ),
         ),
     ),
@@ -530,11 +520,11 @@ MISTAKES = [
         ),
     ),
     (
-        TOP + '[[interface]]\nname = "eth1"\ncost = 0\ncolor = 1\n[[interface]]\nname = "eth7"\n',
+        TOP + '[[interface]]\nname = "eth1"\ncost = 0\ncolor = 1\n[[interface]]\nname = "eth7"\ncost = 0\n',
         (
             (OF_ETH1 + "cost", "0", NUMBERS.format(1, 65535)),
             (OF_ETH1 + "color", "an unknown key", INTERFACE_KEYS),
-            ("interface 2 (eth7), name", '"eth7", which the kernel doesn\'t have', KERNEL_NAMES),
+            ("interface 2 (eth7), cost", "0", NUMBERS.format(1, 65535)),
         ),
     ),
 ]
@@ -845,6 +835,43 @@ class Reading(Files):
                 whole = TOP + top + text.format(of_lo).replace('"lo"', '"same"')
                 read = self.read(whole.replace('"eth1"', '"eth2"\naddress = "10.0.2.1/24"'))
                 self.assertEqual([each.passive for each in read.interfaces], wanted)
+
+    def test_interfaces_that_are_not_there(self) -> None:
+        """The box runs without them, and says so."""
+        names = ("eth1", "tun9", "bare", "wg1")
+        text = "".join(f'[[interface]]\nname = "{each}"\n' for each in names)
+        read = self.read(TOP + text + 'address = "10.9.9.1/24"\n')
+        self.assertEqual([each.name for each in read.interfaces], ["eth1"])
+        self.assertEqual(read.awaited, ("tun9", "bare", "wg1"))
+        without = "the box runs without it, and takes it once it comes"
+        self.assertIn(f"tun9: the kernel doesn't have it: {without}", read.advice)
+        self.assertIn(f"bare: it has no IPv4 address: {without}", read.advice)
+
+    def test_none_is_there(self) -> None:
+        read = self.read(TOP + '[[interface]]\nname = "tun9"\n')
+        self.assertEqual((read.interfaces, read.awaited), ((), ("tun9",)))
+
+    def test_patterns_of_names(self) -> None:
+        """A section that names an interface goes before; those with several addresses, an MTU that
+        OSPF can't have or an address of another's are left out, and the loopback interface is."""
+        text = TOP + '[[interface]]\nname = "*"\ncost = 9\n' + INTERFACE
+        read = self.read(text)
+        self.assertEqual([(each.name, each.cost) for each in read.interfaces], [("eth1", 10)])
+        self.assertIn("same is left out: eth1 has its address too", read.advice)
+        read = self.read(TOP + '[[interface]]\nname = "s?me"\ncost = 9\npeer = "10.0.1.2"\n')
+        (one,) = read.interfaces
+        self.assertEqual((one.name, one.cost, str(one.peer)), ("same", 9, "10.0.1.2"))
+        self.assertEqual(read.awaited, ("s?me",))
+        read = self.read(TOP + '[[interface]]\nname = "wg*"\n')
+        self.assertEqual((read.interfaces, read.advice), ((), ()))
+
+    def test_what_a_pattern_means(self) -> None:
+        for name, interface, is_meant in (
+            *(("wg*", "wg0", True), ("wg*", "wg", True), ("wg*", "awg0", False)),
+            *(("e?h1", "eth1", True), ("e?h1", "eh1", False), ("*", "lo", False), ("lo", "lo", True)),
+            *(("a.*", "a.1", True), ("a.*", "ab1", False), ("wg0", "wg0", True)),
+        ):
+            self.assertEqual(matches(name, interface), is_meant, (name, interface))
 
     def test_the_documents_have_each_key(self) -> None:
         """docs/use/HOST.md's table of keys against the keys that are read."""
