@@ -402,10 +402,12 @@ def links(given: Try) -> None:
     def has(*hops: str) -> bool:
         return sorted(box.kernel_routes().get("172.16.2.0/24", [])) == list(hops)
 
-    both = ("10.0.1.2", "10.0.2.2")
+    both, seen = ("10.0.1.2", "10.0.2.2"), network.work / "notices"
     looks.timed("FRR's network has two next hops", TIMERS.comes_up, lambda: has(*both))
+    network.start(own, ["ip", "monitor", "route"], seen)
     run("ip", "-n", own, "link", "set", "eth2", "down")
     looks.timed("one link down here: one next hop", 4, lambda: has(both[0]))
+    looks.timed("who follows the kernel's notices sees it", 4, lambda: is_one_way(seen.read_text()))
     run("ip", "-n", own, "link", "set", "eth2", "up")
     looks.timed("up again: two", TIMERS.comes_up, lambda: has(*both))
     run("ip", "-n", far, "link", "set", "eth2", "down")
@@ -426,6 +428,12 @@ def links(given: Try) -> None:
     status = box.stop()
     looks.look("the end", status == 0 and has(), f"status {status}")
     frr.stop()
+
+
+def is_one_way(notices: str) -> bool:
+    """Whether the last one of FRR's network has a next hop and no list of them."""
+    last = [each for each in notices.splitlines() if "172.16.2.0/24" in each][-1:]
+    return "via 10.0.1.2" in "".join(last)
 
 
 def again(given: Try) -> None:
