@@ -14,7 +14,7 @@ from leafrunt_host.bfd import Neighbor as BfdNeighbor
 from leafrunt_host.bfd import Sessions
 from leafrunt_host.clock import Clock
 from leafrunt_host.exchange import Side
-from leafrunt_host.forwarding import CannotKeep, Hop, KernelTable
+from leafrunt_host.forwarding import ByAddress, CannotKeep, Hop, KernelTable
 from leafrunt_host.holding import Holding
 from leafrunt_host.journal import where_it_failed
 from leafrunt_host.own_lsas import SECONDS_REPLACED
@@ -115,6 +115,7 @@ class Keeper:
         waker: Waker,
         give_up: Callable[[], None] = lambda: None,
         holding: Holding | None = None,
+        by_address: ByAddress = lambda _: {},
     ) -> None:
         """`holding` is told what the kernel has."""
         self._known, self._router = known, router
@@ -123,6 +124,7 @@ class Keeper:
         self._refused: set[str] = set()
         """The lists that `routerd` has refused when it was asked last."""
         self._kernel, self._waker, self._holding = kernel, waker, holding
+        self._by_address = by_address
         self._work = WorkQueue()
         self._ending, self._is_kept = threading.Event(), threading.Event()
         self._thread = threading.Thread(target=self._keep, name="keeper", daemon=True)
@@ -334,7 +336,7 @@ class Keeper:
             self._table, self._lines = table, table.splitlines()
             self._own_networks = table.count(OWN_NETWORK)
         hops, own = self._hops(), self._own_destinations()
-        outcome = kernel.keep(self._lines, hops, own, self._patience())
+        outcome = kernel.keep(self._lines, hops, own, self._patience(), self._by_address)
         self._is_kept.set()
         for each in outcome.news:
             log.warning("kernel: %s", each)
