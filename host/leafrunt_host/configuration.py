@@ -23,7 +23,7 @@ from leafrunt_host.bfd_packets import BfdKey, KeyType
 from leafrunt_host.bfd_settings import AnyKey
 from leafrunt_host.counter_names import counter_names
 from leafrunt_host.destinations import MOST_EXTERNALS, Announcement
-from leafrunt_host.isolation import USER, Account, account_of
+from leafrunt_host.isolation import Account, account_of
 from leafrunt_host.journal import LEVELS
 from leafrunt_host.kernel import KernelInterface
 from leafrunt_host.kernel_settings import KernelSettings, kernel_settings_of, look_at_vrf
@@ -294,7 +294,7 @@ class _Reader:
         try:
             return account_of(name or None, self._path.stem)
         except ValueError as error:
-            self._top.note("user", f"{shown(name or USER)}, {error}", "a user of this machine")
+            self._top.note("user", f"{shown(name)}, {error}", "a user of this machine")
             return None
 
     def _routerd(self, account: Account | None) -> Path | None:
