@@ -28,7 +28,7 @@ if TYPE_CHECKING:
 
 LEAST_INTERVAL, MOST_INTERVAL = 0.5, 3600.0
 """Seconds between two looks of `watch`."""
-LISTS = ("status", *DOCUMENTS, "database", "why")
+LISTS = ("status", *DOCUMENTS, "database", "why", "changes")
 """What lists something of a box, and takes `--json`."""
 ABOUT = """A box that routes: `routerd`, an OSPF router, on this host, among BIRD, FRR and others.
 
@@ -46,6 +46,7 @@ EXAMPLES = {
     "counters": "leafrunt counters\n  leafrunt counters --json | jq '.counters[] | {name, value}'",
     "database": "leafrunt database\n  leafrunt database 203.0.113.0\n  leafrunt database --json | jq .lsas[0]",
     "why": "leafrunt why 203.0.113.0/24\n  leafrunt why 203.0.113.7\n  leafrunt why --json 203.0.113.0/24 | jq .program.answer",
+    "changes": "leafrunt changes --since 02:00\n  leafrunt changes 203.0.113.0/24 --since 2h\n  leafrunt changes --json | jq '.changes[-1]'",
     "watch": "leafrunt watch\n  leafrunt watch --interval 5 --box one\n  leafrunt watch --once",
     "metrics": "leafrunt metrics\n  leafrunt metrics --format prometheus | sponge /var/lib/prometheus/node-exporter/leafrunt.prom",
     "map": "leafrunt map | dot -Tsvg >area.svg\n  leafrunt map --to 203.0.113.0/24 | dot -Tsvg >way.svg",
@@ -66,6 +67,7 @@ TITLES = {
     "counters": "list the programs' counters that are above 0; in JSON those with a name too",
     "database": "list the LSAs that a box knows, as BIRD's `show ospf lsadb` does; with an ID those, whole",
     "why": "say why a destination is, or isn't, in the kernel's table: LSAs, the program at veto, neighbors",
+    "changes": "list what changed of routes, neighbors and programs, when, and what came before it",
     "watch": "follow the neighbors, routes and counters of a box on the terminal; q leaves",
     "metrics": "print what a box is doing as OpenMetrics text, for Prometheus (needs python3-prometheus-client)",
     "map": "print the area as a Graphviz graph, for `dot`",
@@ -98,6 +100,17 @@ def address(text: str) -> IPv4Address:
         return IPv4Address(text)
     except ValueError as error:
         raise argparse.ArgumentTypeError(f"{text!r} is no Link State ID, A.B.C.D") from error
+
+
+def moment(text: str) -> str:
+    from leafrunt_host.history import moment_of
+
+    try:
+        moment_of(text, time.time())
+    except (ValueError, OverflowError) as error:
+        said = f"{text!r} is no moment: 02:14, '2026-12-01 02:14', or 90m, 2h, 1d ago"
+        raise argparse.ArgumentTypeError(said) from error
+    return text
 
 
 def interval(text: str) -> float:
@@ -148,6 +161,11 @@ def with_own_words(one: argparse.ArgumentParser, name: str) -> None:
     if name == "why":
         about = "A.B.C.D/L, or an address, whose longest prefix is meant"
         one.add_argument("destination", type=destination, metavar="PREFIX", help=about)
+    if name == "changes":
+        about = "a destination, whose changes alone are listed"
+        one.add_argument("prefix", nargs="?", type=prefix, metavar="PREFIX", help=about)
+        about = "from when on: 02:14, '2026-12-01 02:14', or 90m, 2h, 1d ago"
+        one.add_argument("--since", type=moment, metavar="TIME", help=about)
     if name == "watch":
         about = f"seconds between two looks, {LEAST_INTERVAL:g} to {MOST_INTERVAL:g} (default 1)"
         one.add_argument("--interval", type=interval, default=1.0, metavar="SECONDS", help=about)

@@ -15,7 +15,8 @@ from leafrunt_host.area import area_of
 from leafrunt_host.area_map import Destination, map_lines
 from leafrunt_host.bridge import Bridge
 from leafrunt_host.capture import Capture
-from leafrunt_host.documents import database_of
+from leafrunt_host.documents import database_of, document
+from leafrunt_host.history import change_line, change_of, moment_of, prefix_of
 from leafrunt_host.journal import Kept, where_it_failed
 from leafrunt_host.kernel import KernelRoute, kernel_route
 from leafrunt_host.lsas import RouterBody
@@ -80,6 +81,7 @@ class Desk:
             "map": self._map,
             "log": self._last_of_log,
             "why": self._why,
+            "changes": self._changes,
         }
 
     def serve(self, router: Router) -> None:
@@ -152,15 +154,18 @@ class Desk:
             return answer
 
     def _note(self, line: str, answer: str, by: str) -> None:
-        self._known.programs = {
-            **self._known.programs,
-            **attached(answer, line.partition(" ")[2], by),
-        }
+        before = self._known.programs
+        self._known.programs = {**before, **attached(answer, line.partition(" ")[2], by)}
         if answer.startswith("detached "):
             hook = answer.partition(" ")[2]
             self._known.programs = {
                 each: said for each, said in self._known.programs.items() if each != hook
             }
+        for hook in before.keys() | self._known.programs.keys():
+            one, other = before.get(hook), self._known.programs.get(hook)
+            if one is not other:
+                was, is_now = one.object if one else None, other.object if other else None
+                self._known.history.note("program", hook, was, is_now, f"by {by or 'the configuration'}")
 
     # -- words of the box's own
 
@@ -290,6 +295,29 @@ class Desk:
             ) from None
         said = Why(self._known, self._topology, heard, prefix).document()
         return [json.dumps(said)] if is_json else why_lines(said)
+
+    def _changes(self, rest: str) -> list[str]:
+        """After the word: `json`, a destination, and `since` with a moment in seconds since 1970; each
+        may be left out."""
+        words = rest.split()
+        is_json, prefix, since = words[:1] == ["json"], None, float("-inf")
+        words = words[is_json:]
+        try:
+            if words[-2:-1] == ["since"]:
+                since, words = moment_of(words[-1].replace("_", " "), time.time()), words[:-2]
+            if words:
+                (text,) = words
+                prefix = prefix_of(text)
+        except ValueError:
+            raise Refused(
+                "after `changes` comes a destination, A.B.C.D/L, or nothing, and then `since` and a "
+                "moment: 02:14, 2026-12-01_02:14, 90m or 2h ago; or nothing"
+            ) from None
+        found = self._known.history.last(prefix, since)
+        if not is_json:
+            return list(map(change_line, found))
+        said = list(map(change_of, found))
+        return [json.dumps(document("changes", self._known.configuration.name, changes=said))]
 
     def _heard(self) -> Heard:
         """What `routerd` says of its routes, if it says it soon."""

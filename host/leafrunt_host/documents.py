@@ -40,6 +40,7 @@ VERSIONS = {
     "counters": 1,
     "database": 1,
     "why": 1,
+    "changes": 1,
 }
 PREFIX = r"\d{1,3}(?:\.\d{1,3}){3}/\d{1,2}"
 ROUTE = re.compile(

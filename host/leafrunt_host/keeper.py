@@ -50,6 +50,8 @@ OWN_NETWORK = b" via 0\n"
 TWO_WAY = ("ExStart", "Exchange", "Loading", "Full")
 """The states of a neighbor that hears this router (RFC 2328, 10.1): on a point-to-point link none
 stays in 2-Way."""
+SECONDS_OF_STEP = 5.0
+"""After a step of the clock so long adjacencies are lost by it."""
 MOST_STEPS = 3
 """Steps of the clock that are told of."""
 SECONDS_TO_SERVE = 150.0
@@ -290,11 +292,28 @@ class Keeper:
             return False
         self._neighbors = neighbors
         known.neighbors = neighbors_of(neighbors)
-        names = {at: each.name for at, each in enumerate(known.configuration.interfaces, 1)}
-        names |= {number: link.interface.name for number, link in known.links.items()}
-        for line in known.adjacencies.look(neighbors, names, now):
-            log.info("%s", line)
+        for level, line in known.adjacencies.look(neighbors, self._names(), now, self._why):
+            log.log(level, "%s", line)
+        for each in known.adjacencies.changes():
+            known.history.note("neighbor", each.name, each.before, each.after, each.why)
         return True
+
+    def _names(self) -> dict[int, str]:
+        """The interfaces by their numbers."""
+        known = self._known
+        names = {at: each.name for at, each in enumerate(known.configuration.interfaces, 1)}
+        return names | {number: link.interface.name for number, link in known.links.items()}
+
+    def _why(self, number: int, router_id: IPv4Address) -> str:
+        """Why a neighbor isn't Full any more, as far as that is seen here."""
+        known = self._known
+        if (step := known.steps[-1:]) and time.monotonic() - step[0].at < SECONDS_OF_STEP:
+            return step[0].news()
+        session = known.sessions.report(number) if known.sessions else None
+        if session and session["state"] != "Up":
+            return f"BFD: {session['state']}, {session['diagnostic']}"
+        link = known.links.get(number)
+        return link.why_lost(router_id, time.monotonic()) if link else "the interface is gone"
 
     def _note(self, name: str, is_refused: bool) -> None:
         """What became of a list that `routerd` was asked for."""
@@ -352,6 +371,7 @@ class Keeper:
         change = kernel.table_change()
         if change:
             self._known.note_table(time.time(), change)
+            self._known.history.routes(change.gone, change.come, self._names())
         return is_changed
 
     def _patience(self) -> float:

@@ -184,6 +184,13 @@ class Link:
         with self._lock:
             return self._next_hops.get(router_id)
 
+    def why_lost(self, router_id: IPv4Address, now: float) -> str:
+        """Why a neighbor isn't Full any more."""
+        with self._lock:
+            if not self.is_usable:
+                return "; ".join(self._of_kernel()) or "the interface can't be used"
+            return self.observer.why_lost(router_id, now)
+
     def reports(self, now: float) -> list[Report]:
         """What is to be said of the interface, then of each Router ID that was seen at it."""
         with self._lock:
@@ -266,7 +273,7 @@ class Link:
     def _refused(self, data: bytes, source: IPv4Address, why: Refused, now: float) -> None:
         self.counters[f"refused {why.refusal.value}"] += 1
         self._tracer.refused(source, why, now)
-        self._tell(self.observer.refused(data, source, why, now), now)
+        self._tell(self.observer.refused(data, source, why, now), now, logging.WARNING)
 
     def from_wire(self, data: bytes, source: IPv4Address, now: float) -> Sent:
         """An OSPF packet that came in by IP, to an address and from one that count."""
@@ -276,7 +283,7 @@ class Link:
                 self._refused(data, source, packet, now)
                 return Sent()
             try:
-                self._tell(self.observer.from_wire(packet, source, now), now)
+                self._tell(self.observer.from_wire(packet, source, now), now, logging.WARNING)
                 return self._taken(packet, source, now)
             except Malformed as why:
                 self.counters["refused malformed"] += 1

@@ -71,6 +71,9 @@ def listed(client: Client, words: argparse.Namespace) -> list[str]:
     kind = str(words.command)
     rest = [str(words.id)] if kind == "database" and words.id else []
     rest += [words.destination] if kind == "why" else []
+    if kind == "changes":
+        rest += [str(words.prefix)] if words.prefix else []
+        rest += ["since", words.since.replace(" ", "_")] if words.since else []
     if words.json:
         return [json.dumps(document_of(client, kind, rest), indent=2)]
     return list_of(client.ask(" ".join([kind, *rest])))

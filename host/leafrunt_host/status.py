@@ -4,7 +4,7 @@ from __future__ import annotations
 import re
 import time
 from collections.abc import Mapping
-from dataclasses import dataclass, field
+from dataclasses import dataclass, field, replace
 from ipaddress import IPv4Address, IPv4Network
 
 from leafrunt_host.announcements import Announced
@@ -14,8 +14,10 @@ from leafrunt_host.clock import Step, moment_text
 from leafrunt_host.configuration import Configuration, InterfaceSettings
 from leafrunt_host.documents import schema_of
 from leafrunt_host.forwarding import host_warnings
+from leafrunt_host.history import History
 from leafrunt_host.kernel import Json
 from leafrunt_host.link import Link
+from leafrunt_host.namesakes import Namesakes
 from leafrunt_host.observing import Adjacencies
 from leafrunt_host.owed import Debts
 from leafrunt_host.programs import Attached
@@ -93,6 +95,9 @@ class Known:
     """The last time that `routerd` refused what happens, or that it does."""
     steps: tuple[Step, ...] = ()
     """The last steps of the machine's clock."""
+    history: History = field(default_factory=lambda: History(None))
+    """What changed."""
+    namesakes: Namesakes | None = None
     sessions: Sessions | None = None
     """BFD's, if an interface asks for it."""
     table_changes: tuple[tuple[float, TableChange], ...] = ()
@@ -115,7 +120,8 @@ class Known:
             self.stopped = (*self.stopped, line)
 
     def note_table(self, moment: float, change: TableChange) -> None:
-        self.table_changes = (*self.table_changes, (moment, change))[-MOST_KEPT:]
+        it = replace(change, gone={}, come={})
+        self.table_changes = (*self.table_changes, (moment, it))[-MOST_KEPT:]
 
     def publish(
         self, announced: dict[IPv4Network, Announced], not_announced: tuple[str, ...]
@@ -142,6 +148,7 @@ def remarks_of(known: Known, now: float) -> list[str]:
     refused = known.refusal.remark(time.time()) if known.refusal else None
     if refused and known.refusal and not (said and known.refusal.is_of_clock):
         said.insert(0, refused)
+    said += filter(None, [known.namesakes.remark(now) if known.namesakes else None])
     said += known.not_announced
     said += [each for each in (known.not_reloaded, known.file_fault) if each]
     if known.looked is not None and now - known.looked > SECONDS_TO_LOOK:
@@ -222,6 +229,8 @@ def at_rest_since(known: Known) -> float | None:
     and were owed nothing; None if one isn't, or does, or an interface has none, or `routerd` refuses
     what happens, or something of it doesn't come to the kernel."""
     if (known.refusal and known.refusal.until is None) or not is_whole(known):
+        return None
+    if known.namesakes and known.namesakes.remark(time.monotonic()):
         return None
     began = []
     for neighbor in known.neighbors.values():

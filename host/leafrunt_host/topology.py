@@ -102,6 +102,8 @@ class Topology:
         self._news = news
         """Is called when an LSA comes, from either side, that says something new: a refresh of one
         that is known doesn't."""
+        self.changed: Callable[[bytes], None] = lambda _lsa: None
+        """Is called with each of these."""
         self._one_at_a_time = threading.Lock()
         self._entries: dict[bytes, Entry] = {}
         self._most = MOST_ENTRIES
@@ -162,7 +164,10 @@ class Topology:
         except Malformed:
             return
         own = packet.router_id.packed if side is Side.ROUTER else b""
-        if any(is_router_lsa_of(own, data) or self._is_new(data, now) for data in lsas):
+        new = [data for data in lsas if self._is_new(data, now)]
+        for data in new:
+            self.changed(data)
+        if new or any(is_router_lsa_of(own, data) for data in lsas):
             self._news()
         for data in lsas:
             if data[3] not in KINDS:

@@ -92,8 +92,16 @@ class Why:
             near=self._near(),
             program=self._program(),
             remarks=list(self._remarks()),
-            changes=[],
+            changes=self._changes(),
         )
+
+    def _changes(self) -> list[Json]:
+        """The latest first."""
+        found = self._known.history.last(self._prefix, most=MOST_CHANGES)
+        return [
+            {"at": it.at, "before": it.before, "after": it.after, "cause": it.cause}
+            for it in reversed(found)
+        ]
 
     # -- the kernel
 

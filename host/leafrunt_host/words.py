@@ -18,6 +18,7 @@ BOX_WORDS = {
     "programs": "the programs at the hooks",
     "database": "the LSAs; with a Link State ID after it those with that ID, whole",
     "why PREFIX": "why a destination, or the longest one of an address, is or isn't in the kernel",
+    "changes": "what changed of routes, neighbors and programs; a prefix after it: of that alone",
     "map": "the area as a Graphviz graph; with a prefix after it the way there is marked",
     "log": "the log's last 40 lines; with a number after it that many",
     "capture FILE": "write all OSPF packets to a new pcap file; `capture off` ends that",

@@ -277,7 +277,7 @@ class OfBoxes(Boxes):
                 self.assertEqual(self.leafrunt(kind), (0, "\n".join(lines) + "\n", ""))
         for kind in LISTS:
             with self.subTest(kind):
-                rest = ("203.0.113.0/24",) if kind == "why" else ()
+                rest = ("203.0.113.0/24",) if kind in ("why", "changes") else ()
                 status, text, errors = self.leafrunt(kind, "--json", *rest)
                 self.assertEqual((status, errors), (0, ""))
                 self.assertEqual(schemas.faults(schemas.schema(kind), json.loads(text)), [])

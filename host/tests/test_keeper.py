@@ -123,6 +123,9 @@ class StandInLink:
     def next_hop(self, router_id: IPv4Address) -> IPv4Address:
         return IPv4Address("10.0.1.2") if router_id == TWO else IPv4Address("10.0.2.2")
 
+    def why_lost(self, _router_id: IPv4Address, _now: float) -> str:
+        return "no Hello for 8 s"
+
 
 class StandInRouter:
     def __init__(self) -> None:

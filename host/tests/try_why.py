@@ -14,9 +14,12 @@ from tests.network import (
     Box,
     End,
     Frr,
+    Network,
     Side,
     Try,
     is_full,
+    is_said,
+    line_of,
     prefixes,
     run,
     within,
@@ -237,3 +240,49 @@ def stand_still(given: Try, box: Box, seconds: float) -> None:
     finally:
         os.kill(routerd, signal.SIGCONT)
     time.sleep(2)
+
+
+class FarBird(Bird):
+    """Another BIRD, in a folder of its own."""
+
+    def __init__(self, network: Network, namespace: str, router_id: str, sides: list[Side]) -> None:
+        super().__init__(network, namespace, router_id, sides)
+        self.folder = network.work / "bird-far"
+        self.folder.mkdir()
+
+
+def namesake(given: Try) -> None:
+    """A BIRD three hops away has the box's Router ID: it is named with its address, and the box's own
+    routes stay in the kernel."""
+    network, looks = given.network, given.looks
+    own, near, next_, far = (network.namespace(each) for each in ("own", "near", "next", "far"))
+    network.link(End(own, "eth1", "10.0.1.1/24"), End(near, "eth1", "10.0.1.2/24"))
+    network.link(End(near, "eth2", "10.0.2.2/24"), End(next_, "eth1", "10.0.2.3/24"))
+    network.link(End(next_, "eth2", "10.0.3.3/24"), End(far, "eth1", "10.0.3.4/24"))
+    network.link(End(own, "eth2", "192.168.1.1/24"), End(far, "eth2", "192.168.1.9/24"))
+    bird = Bird(network, near, "2.2.2.2", [Side("eth1"), Side("eth2")])
+    bird.externals = [PLAIN]
+    frr = Frr(network, next_, "3.3.3.3", [Side("eth1"), Side("eth2")])
+    other = FarBird(network, far, "1.1.1.1", [Side("eth1")])
+    other.externals = [BOTH]
+    lan = Side("eth2", is_passive=True)
+    box = Box(network, given.routerd, own, "same", "1.1.1.1", [Side("eth1"), lan])
+    box.announced = [Announce(OWN)]
+    for each in (bird, frr, box):
+        each.start()
+    looks.timed("all are Full, with their routes", COMES_UP, lambda: PLAIN in box.kernel_routes())
+    time.sleep(8)
+    other.start()
+    text = "another router has this Router ID, 1.1.1.1: its router-LSA came with the "
+    looks.timed("`leafrunt status` names it with its address within 30 s", 30, lambda: is_said(box, text))
+    looks.look("and so does the log", text in box.log.read_text())
+    where = line_of(box, text)
+    looks.look("with where it is", "10.0.3." in where, where)
+    looks.look("it isn't at rest", not is_said(box, "at rest since"))
+    missing = 0
+    for _ in range(90):
+        missing += not {PLAIN, "10.0.2.0/24"} <= box.kernel_routes().keys()
+        time.sleep(0.5)
+    looks.look("the box's own routes are away at none of 90 looks", missing == 0, f"{missing}")
+    for router in (other, box, frr, bird):
+        router.stop()
