@@ -31,6 +31,8 @@ SECONDS_TO_LOOK = 10.0
 NEIGHBOR = re.compile(r"neighbor (\d+) (\S+) (\w+)")
 SILENT = "{}: what is said here is from before"
 ALL_OUT = "the program at veto keeps all routes out: LSAs offer {}, and it lets none in"
+PATTERN = "*?["
+"""What makes a pattern of an interface's name (fnmatch(3)): there may be none of these."""
 MOST_STOPPED = 64
 """Lines of `routerd` that are kept: one for each interface that it stops to serve."""
 
@@ -219,9 +221,10 @@ def is_whole(known: Known) -> bool:
         if not each.passive
     }
     full = {each.number for each in known.neighbors.values() if each.state == "Full"}
-    kept = known.kept
+    kept, awaited = known.kept, known.configuration.awaited
     is_kept = not (kept.error or kept.refused or kept.without_hop)
-    return active <= full and is_kept and not any(it.withholds for it in known.links.values())
+    is_there = active <= full and all(set(each) & set(PATTERN) for each in awaited)
+    return is_there and is_kept and not any(it.withholds for it in known.links.values())
 
 
 def at_rest_since(known: Known) -> float | None:

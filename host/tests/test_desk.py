@@ -115,7 +115,8 @@ class Rests(unittest.TestCase):
         out, or `routerd` doesn't answer."""
         full = ("neighbor 1 2.2.2.2 Full",)
         self.assertIsNotNone(status_of(known(neighbors=full))["at_rest_since"])
-        lonely, withholding, refused, lost, unkept = (known(neighbors=full) for _ in range(5))
+        lonely, withholding, refused, lost, unkept, awaiting = (known(neighbors=full) for _ in range(6))
+        awaiting.configuration = replace(awaiting.configuration, awaited=("ppp*", "eth9"))
         one = lonely.configuration.interfaces
         more = (*one, interface("eth2", "10.0.3.1/24"))
         lonely.configuration = replace(lonely.configuration, interfaces=more)
@@ -123,9 +124,11 @@ class Rests(unittest.TestCase):
         refused.kept = Kept(refused=("10.0.0.0/8 via 10.0.1.2 dev eth1: File exists",))
         lost.kept = Kept(without_hop=(b"10.0.0.0/8",))
         unkept.kept = Kept(error="no ip")
-        for it in (lonely, withholding, refused, lost, unkept):
+        for it in (lonely, withholding, refused, lost, unkept, awaiting):
             self.assertIsNone(status_of(it)["at_rest_since"])
         it = known(neighbors=full)
+        it.configuration = replace(it.configuration, awaited=("ppp*",))
+        self.assertIsNotNone(status_of(it)["at_rest_since"])
         self.assertIsNone(status_of(it, silence="routerd hasn't answered")["at_rest_since"])
         it.looked, it.kept = time.monotonic(), Kept(table=3, own=3)
         status = status_of(it, offered=8)
