@@ -200,6 +200,13 @@ def parser() -> argparse.ArgumentParser:
     return top
 
 
+FIT = (
+    "it is for an area of up to 16384 LSAs, in which no router has more than 678 links (a numbered "
+    "point-to-point link counts twice)"
+)
+"""Which networks a box isn't for: see `withheld`, which names what is above that."""
+
+
 # (each command loads its own part alone: a client isn't to wait for what a box is made of)
 
 
@@ -243,7 +250,7 @@ def checked_lines(path: Path, configuration: Configuration) -> list[str]:
 
     names = ", ".join(f"{each.name} {each.address}" for each in configuration.interfaces) or "none"
     said = f"{path}: nothing is wrong: router {configuration.router_id} at {names}"
-    return [said, *(f"warning: {each}" for each in warnings_of(configuration))]
+    return [said, FIT, *(f"warning: {each}" for each in warnings_of(configuration))]
 
 
 def client_of(words: argparse.Namespace) -> AbstractContextManager[Client]:

@@ -63,7 +63,9 @@ def header_fault(header: bytes) -> str | None:
     if sequence == RESERVED:
         return "its sequence number 0x80000000 is reserved (RFC 2328, 12.1.6)"
     if length > LONGEST_LSA:
-        return f"it has {length} bytes, and at most {LONGEST_LSA} are read"
+        links = (length - LSA_HEADER_LENGTH - 4) // ROUTER_LINK.size
+        lost = f": none of this router's {links} links counts" * (kind == LsType.ROUTER)
+        return f"it has {length} bytes, and at most {LONGEST_LSA} are read{lost}"
     return None
 
 

@@ -6,9 +6,10 @@ from dataclasses import replace
 from ipaddress import IPv4Address
 from unittest import mock
 
+from leafrunt_host.commands import FIT
 from leafrunt_host.link import WITHHELD, Link
 from leafrunt_host.packets import Description, Flags, Packet, PacketType, lsas_of, read
-from leafrunt_host.places import Places
+from leafrunt_host.places import MOST_LSAS, Places
 from leafrunt_host.withheld import (
     GIVEN_IN_VAIN,
     MAX_AGE,
@@ -92,6 +93,16 @@ class Faults(unittest.TestCase):
         for why, lsa in UNREAD.items():
             with self.subTest(why):
                 self.assertIn(why, str(fault(lsa)))
+
+    def test_a_hub_of_more_links_than_are_read(self) -> None:
+        """It is told how many of them don't count, by the header too."""
+        links = [(3, f"10.{at >> 8}.{at & 255}.0", "255.255.255.0", 1) for at in range(679)]
+        self.assertIsNone(fault(router_lsa("1.1.1.1", *links[1:])))
+        why = "it has 8172 bytes, and at most 8164 are read: none of this router's 679 links counts"
+        lsa = router_lsa("1.1.1.1", *links)
+        self.assertEqual((fault(lsa), header_fault(lsa[:20])), (why, why))
+        self.assertIn(f"no router has more than {len(links) - 1} links", FIT)
+        self.assertIn(f"up to {MOST_LSAS} LSAs", FIT)
 
     def test_a_wrong_checksum(self) -> None:
         """Every router discards such an LSA, without an acknowledgment (13, step 1)."""
