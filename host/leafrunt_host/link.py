@@ -358,14 +358,14 @@ class Link:
             return lsas
         own, number = self.observer.own, self.interface.number
         router_id = own.router_id.packed if own else b""
+        found = []
         for each in lsas:
             self._own_lsas.came(router_id, each, now)
-        found = [
-            each
-            for each in lsas
-            if not self._own_lsas.is_early(router_id, each, now)
-            and not self._arrivals.waits(number, packet, each, now)
-        ]
+            until = self._own_lsas.early_until(router_id, each)
+            if until > now:
+                self._arrivals.keep(number, packet, each, until)
+            elif not self._arrivals.waits(number, packet, each, now):
+                found.append(each)
         if len(found) < len(lsas):
             self.counters[EARLY] += len(lsas) - len(found)
         return found

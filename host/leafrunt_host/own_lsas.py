@@ -5,7 +5,7 @@ this router originates meanwhile and that isn't newer.
 Then this router has to go one past its number (13.4). `routerd` does so if it may originate at
 once. Within MinLSInterval of its last instance it has to wait: what came is removed meanwhile,
 since it is at MaxAge, its number is forgotten, and the next instance begins where the last one
-did, without an end. So what comes within that time counts as lost: the neighbor sends it again.
+did, without an end. So what comes within that time waits until that is over (`arrivals`).
 """
 from __future__ import annotations
 
@@ -64,9 +64,9 @@ class OwnLsas:
                 if key[0] == LsType.ROUTER and self._foreign not in (b"", instance):
                     self._foreign, self._doubtful_until = b"", now + SECONDS_CALCULATED
 
-    def is_early(self, router_id: bytes, lsa: bytes, now: float) -> bool:
-        """Whether an LSA of a neighbor's Update is one that `routerd` would have to wait for."""
+    def early_until(self, router_id: bytes, lsa: bytes) -> float:
+        """Until when an LSA of a neighbor's Update is one that `routerd` would have to wait for."""
         if lsa[AGE] != FLUSHED or lsa[ORIGIN] != router_id:
-            return False
+            return float("-inf")
         _, moment = self._sent.get(lsa[KEY], (b"", self._begun))
-        return now - moment < MIN_LS_INTERVAL
+        return moment + MIN_LS_INTERVAL

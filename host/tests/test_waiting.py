@@ -8,7 +8,7 @@ from dataclasses import replace
 from ipaddress import IPv4Address
 from types import SimpleNamespace
 
-from leafrunt_host.arrivals import MIN_LS_ARRIVAL, Arrivals
+from leafrunt_host.arrivals import MIN_LS_ARRIVAL, MOST_KEPT, Arrivals
 from leafrunt_host.arrivals import MOST as MOST_GIVEN
 from leafrunt_host.bridge import Bridge
 from leafrunt_host.holding import LONGEST, MOST, Holding, own_router_lsa_in
@@ -47,9 +47,9 @@ class OwnLsasThatComeBack(unittest.TestCase):
     def setUp(self) -> None:
         logging.disable(logging.WARNING)
         self.addCleanup(logging.disable, logging.NOTSET)
-        own_lsas = OwnLsas(100.0)
+        own_lsas, self.arrivals = OwnLsas(100.0), Arrivals()
         interface, numbers = link().interface, link().authentication._numbers
-        self.link = Link(interface, numbers, own_lsas=own_lsas)
+        self.link = Link(interface, numbers, own_lsas=own_lsas, arrivals=self.arrivals)
         self.link.from_router(own_hello(), 100)
 
     def given(self, now: float, *lsas: bytes) -> list[bytes]:
@@ -69,6 +69,32 @@ class OwnLsasThatComeBack(unittest.TestCase):
         self.assertEqual(self.link.from_wire(update(lsa), THERE, 201).to_wire, [])
         self.assertEqual(self.given(200 + MIN_LS_INTERVAL, lsa), [lsa])
         self.assertEqual(self.link.counters[EARLY], 3)
+
+    def test_they_come_once_it_may(self) -> None:
+        """The newest one, without the neighbor's sending it again, which may come too early too:
+        with RxmtInterval as long as MinLSInterval it was ten seconds until others had the next."""
+        mine = external("192.0.2.0/24", "1.1.1.1")
+        self.link.from_router(sent(mine), 200)
+        for number in (3, 4, 2):
+            lsa = flushed(external("192.0.2.0/24", "1.1.1.1", sequence=FIRST + number))
+            self.assertEqual(self.given(200.1, lsa, EXTERNAL), [EXTERNAL])
+        forged = flushed(external("192.0.2.0/24", "1.1.1.1", sequence=FIRST + 9))
+        self.assertEqual(self.given(200.2, forged[:-1] + b"x"), [])
+        self.assertTrue(self.arrivals)
+        self.assertFalse(self.arrivals.is_waiting)
+        self.assertEqual([*self.arrivals.due(204.9)], [])
+        ((_, packet),) = self.arrivals.due(200 + MIN_LS_INTERVAL)
+        wanted = [flushed(external("192.0.2.0/24", "1.1.1.1", sequence=FIRST + 4))]
+        self.assertEqual(lsas_of(packet.body), wanted)
+        came = self.link.come_again(packet, 200 + MIN_LS_INTERVAL).to_router
+        self.assertEqual([lsas_of(read(each).body) for each in came], [wanted])
+        self.assertFalse(self.arrivals)
+
+    def test_bounds_of_what_waits(self) -> None:
+        for number in range(MOST_KEPT + 9):
+            prefix = str(IPv4Address(0x0A000000 + 256 * number)) + "/24"
+            self.given(101, flushed(external(prefix, "1.1.1.1")))
+        self.assertEqual(len(self.arrivals._kept), MOST_KEPT)
 
     def test_what_is_given_at_any_time(self) -> None:
         """An own LSA below MaxAge, those of others, and own ones that it has flushed itself."""

@@ -31,6 +31,9 @@ from tests.network import (
     within,
 )
 
+MIN_LS_INTERVAL = 5
+"""Seconds (RFC 2328, B)."""
+
 
 class Line:
     """BIRD 2.2.2.2 - a box - FRR 3.3.3.3, each link with an MTU, direct or by wires that lose
@@ -439,6 +442,7 @@ def is_one_way(notices: str) -> bool:
 def again(given: Try) -> None:
     """A destination is withdrawn, and announced again while FRR keeps what was flushed."""
     it, looks, prefix = Line(given), given.looks, "203.0.113.0/24"
+    it.box.sides = [replace(each, retransmit=MIN_LS_INTERVAL) for each in it.box.sides]
 
     def are_there() -> list[bool]:
         names = (it.bird.namespace, it.frr.namespace)
@@ -453,8 +457,9 @@ def again(given: Try) -> None:
     looks.timed("withdrawn: neither has it", 20, lambda: not any(are_there()))
     time.sleep(6)
     it.box.ask(f"add {prefix} 20 2 0")
-    # (until FRR is told of a newer instance; that its flushed one goes to BIRD first is RFC 2328, 13.4)
-    time.sleep(10)
-    looks.timed("announced again: both have it", 10, lambda: all(are_there()))
+    looks.timed("announced again: FRR has it", MIN_LS_INTERVAL + 2, lambda: are_there()[1])
+    # (FRR's flushed one goes to BIRD first, RFC 2328, 13.4: within MinLSArrival of that BIRD takes no
+    # other, and gets it after RxmtInterval)
+    looks.timed("and both have it", MIN_LS_INTERVAL + 2, lambda: all(are_there()))
     looks.look("and keep it", within(15, lambda: not all(are_there()), 0.5) is None)
     it.stop()
