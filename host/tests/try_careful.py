@@ -238,6 +238,34 @@ def sources(given: Try) -> None:
         ("FRR", 24, ATTACKER, None),
     ):
         given.anew(lambda: repeated(given, kind, length, source, bfd))
+    given.anew(lambda: begun_anew(given))
+
+
+def begun_anew(given: Try) -> None:
+    """FRR begins its numbers with its clock when its interface comes up again: below the last ones,
+    where it has sent more than a packet a second."""
+    network, looks = given.network, given.looks
+    own, far = network.namespace("own"), network.namespace("far")
+    network.link(End(own, "eth1", "10.0.1.1/24"), End(far, "eth1", "10.0.1.2/24"))
+    box = Box(network, given.routerd, own, "box", "1.1.1.1", [Side("eth1", (MD5,))])
+    frr = Frr(network, far, "2.2.2.2", [Side("eth1", (MD5,))])
+    network.link(End(far, "eth2", "172.16.2.1/24"), End(own, "eth2", "172.16.3.9/24"))
+    frr.gateway, frr.externals = "172.16.2.9", prefixes(60, 3000)
+    box.start()
+    frr.start()
+    looks.timed("FRR with 3,000 destinations: Full", COMES_UP, lambda: is_full(box, "2.2.2.2"))
+    within(30, lambda: len(box.kernel_routes()) >= 3000, 1)
+    for at in range(3):
+        run("ip", "-n", far, "link", "set", "eth1", "down")
+        within(10, lambda: not is_full(box, "2.2.2.2"))
+        time.sleep(1)
+        run("ip", "-n", far, "link", "set", "eth1", "up")
+        what = f"its interface goes down and up, {at + 1}: Full"
+        looks.timed(what, 12, lambda: is_full(box, "2.2.2.2"))
+    told = [each for each in box.log_lines() if "replayed packet" in each]
+    looks.look("no packet of FRR's is refused", not told, "; ".join(told))
+    box.stop()
+    frr.stop()
 
 
 def repeated(given: Try, kind: str, length: int, source: str, bfd: Bfd | None) -> None:
