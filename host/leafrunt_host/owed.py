@@ -24,6 +24,9 @@ from leafrunt_host.packets import (
 
 KEY = slice(3, 12)
 FLUSHED = MAX_AGE.to_bytes(2, "big")
+SECONDS_AGAIN = 60.0
+"""A neighbor that hasn't sent an LSA again for so long waits for no acknowledgment: `routerd` never
+acknowledges one with a wrong checksum."""
 MOST = 20_000
 """LSAs that are kept account of each way: the oldest ones are forgotten."""
 Instance = tuple[int, int, bool]
@@ -42,6 +45,8 @@ class _End:
 
     unacknowledged: dict[bytes, Instance] = field(default_factory=dict)
     """The instances that it has sent."""
+    sent: dict[bytes, float] = field(default_factory=dict)
+    """When each of them was sent last."""
     asked: set[bytes] = field(default_factory=set)
 
     @property
@@ -50,7 +55,19 @@ class _End:
 
     def clear(self) -> None:
         self.unacknowledged.clear()
+        self.sent.clear()
         self.asked.clear()
+
+    def forget(self, before: float) -> None:
+        """What wasn't sent again since that moment isn't waited for."""
+        if self.unacknowledged:
+            self.sent = {
+                key: moment
+                for key, moment in self.sent.items()
+                if moment >= before and key in self.unacknowledged
+            }
+            kept = self.unacknowledged.items()
+            self.unacknowledged = {key: its for key, its in kept if key in self.sent}
 
 
 class Debts(NamedTuple):
@@ -84,14 +101,16 @@ class Owed:
     def passed(self, side: Side, packet: Packet, now: float) -> None:
         """A packet that one of them has sent."""
         was_waiting = self.is_waiting
-        self._note(side, packet)
+        self._note(side, packet, now)
         if was_waiting or self.is_waiting:
             self._waited = now
 
-    def _note(self, side: Side, packet: Packet) -> None:
+    def _note(self, side: Side, packet: Packet, now: float) -> None:
         mine, other = self._ends[side], self._ends[side.other]
         if packet.type == PacketType.LINK_STATE_UPDATE:
-            _sent(mine, other, lsas_of(packet.body))
+            _sent(mine, other, lsas_of(packet.body), now)
+        elif packet.type == PacketType.HELLO and side is Side.ROUTER:
+            other.forget(now - SECONDS_AGAIN)
         elif packet.type == PacketType.LINK_STATE_ACKNOWLEDGMENT:
             for header in chunks(packet.body, LSA_HEADER_LENGTH):
                 sent = other.unacknowledged.get(header[KEY])
@@ -138,7 +157,7 @@ class Owed:
         return self._waited
 
 
-def _sent(mine: _End, other: _End, lsas: Iterable[bytes]) -> None:
+def _sent(mine: _End, other: _End, lsas: Iterable[bytes], now: float) -> None:
     """An Update: its LSAs are to be acknowledged, but for those that were asked for (13, 10.7); and
     they acknowledge those that the other end has sent (13, step 7a)."""
     for lsa in lsas:
@@ -150,5 +169,6 @@ def _sent(mine: _End, other: _End, lsas: Iterable[bytes]) -> None:
             other.asked.discard(key)
         elif theirs != instance:
             if len(mine.unacknowledged) >= MOST:
-                del mine.unacknowledged[next(iter(mine.unacknowledged))]
-            mine.unacknowledged[key] = instance
+                oldest = next(iter(mine.unacknowledged))
+                del mine.unacknowledged[oldest], mine.sent[oldest]
+            mine.unacknowledged[key], mine.sent[key] = instance, now

@@ -13,6 +13,7 @@ import struct
 from collections.abc import Iterable, Iterator
 from dataclasses import dataclass
 from ipaddress import IPv4Address
+from itertools import takewhile
 
 from leafrunt_host.lsas import MAX_AGE, LsType, is_whole
 from leafrunt_host.packets import (
@@ -121,10 +122,12 @@ def name_of(key: Key) -> str:
 
 @dataclass
 class _Unread:
-    """An instance of an LSA that isn't read, why, and whether it was flushed since."""
+    """An instance of an LSA that isn't read, why, when it came last, and whether it was flushed
+    since."""
 
     instance: bytes
     why: str
+    moment: float
     is_gone: bool = False
 
 
@@ -158,7 +161,7 @@ class Withheld:
         passed: list[bytes] = []
         withheld: list[bytes] = []
         for lsa in lsas:
-            room = Vacancy.NONE if self._is_unread(lsa) else self._room(lsa, now)
+            room = Vacancy.NONE if self._is_unread(lsa, now) else self._room(lsa, now)
             if room is Vacancy.FREE:
                 self._give(lsa, now)
                 passed.append(lsa)
@@ -166,17 +169,23 @@ class Withheld:
                 withheld.append(lsa[:LSA_HEADER_LENGTH])
         return passed, withheld
 
-    def _is_unread(self, lsa: bytes) -> bool:
+    def _is_unread(self, lsa: bytes, now: float) -> bool:
         key, why = lsa[KEY], fault(lsa)
         if why:
-            self._note(key, lsa[INSTANCE], why, lsa[AGE] == FLUSHED)
+            self._note(key, lsa[INSTANCE], why, now, lsa[AGE] == FLUSHED)
             return True
-        known = self._unread.get(key) if self._unread else None
-        if known and known.instance == lsa[INSTANCE]:
+        if self._is_known(lsa, now):
             return True
-        if known:
-            del self._unread[key]
+        self._unread.pop(key, None)
         return False
+
+    def _is_known(self, header: bytes, now: float) -> bool:
+        """Whether this instance isn't read."""
+        known = self._unread.get(header[KEY]) if self._unread else None
+        if known is None or known.instance != header[INSTANCE]:
+            return False
+        self._note(header[KEY], known.instance, known.why, now, known.is_gone)
+        return True
 
     def _give(self, lsa: bytes, now: float) -> None:
         key = lsa[KEY]
@@ -194,10 +203,9 @@ class Withheld:
     def _is_described(self, header: bytes, now: float) -> bool:
         key, why = header[KEY], header_fault(header)
         if why:
-            self._note(key, header[INSTANCE], why)
+            self._note(key, header[INSTANCE], why, now)
             return False
-        known = self._unread.get(key)
-        if known and known.instance == header[INSTANCE]:
+        if self._is_known(header, now):
             return False
         if header[AGE] == FLUSHED or self._places.has(key) or self._promises(key):
             self._above.discard(key)
@@ -232,13 +240,21 @@ class Withheld:
         if len(self._above) < MOST_ABOVE:
             self._above.add(key)
 
-    def _note(self, key: Key, instance: bytes, why: str, is_gone: bool = False) -> None:
+    def _note(
+        self, key: Key, instance: bytes, why: str, now: float, is_gone: bool = False
+    ) -> None:
         before = self._unread.pop(key, None)
         if before is None and not is_gone:
             self.news.append(f"the LSA {name_of(key)} is withheld: {why}")
         while len(self._unread) >= MOST_KEPT:
             del self._unread[next(iter(self._unread))]
-        self._unread[key] = _Unread(instance, why, is_gone)
+        self._unread[key] = _Unread(instance, why, now, is_gone)
+
+    def _forget(self, now: float) -> None:
+        """What wasn't refreshed has reached MaxAge, and nobody has it (14)."""
+        old = takewhile(lambda each: now - each[1].moment > MAX_AGE, self._unread.items())
+        for key, _ in list(old):
+            del self._unread[key]
 
     # -- from `routerd`
 
@@ -268,7 +284,7 @@ class Withheld:
         self._given = {each: it for each, it in self._given.items() if each in self._asked}
         for key, (count, instance) in self._given.items():
             if count >= GIVEN_IN_VAIN:
-                self._note(key, instance, "routerd doesn't take it, and why isn't known here")
+                self._note(key, instance, "routerd doesn't take it, and why isn't known here", now)
         waits = (
             now - self._asked[each] for each in keys if each in self._unread or each in self._above
         )
@@ -279,6 +295,7 @@ class Withheld:
         One that is under way comes to its end first: on a busy machine thousands of headers take
         longer than what is between two that are begun."""
         self._places.sweep(now)
+        self._forget(now)
         if not self._above or now - self._described < SECONDS_BETWEEN:
             return False
         return self._places.free(self._share) >= ROOM_AGAIN and self._may_begin(now)
