@@ -65,7 +65,7 @@ TITLES = {
     "announced": "list the external destinations that a box announces",
     "programs": "list the programs at the hooks",
     "counters": "list the programs' counters that are above 0; in JSON those with a name too",
-    "database": "list the LSAs that a box knows, as BIRD's `show ospf lsadb` does; with an ID those, whole",
+    "database": "list the LSAs that a box knows, as BIRD's `show ospf lsadb` does; with an ID or destination those, whole",
     "why": "say why a destination is, or isn't, in the kernel's table: LSAs, the program at veto, neighbors",
     "changes": "list what changed of routes, neighbors and programs, when, and what came before it",
     "watch": "follow the neighbors, routes and counters of a box on the terminal; q leaves",
@@ -93,13 +93,6 @@ def destination(text: str) -> str:
     except ValueError as error:
         said = f"{text!r} is no A.B.C.D/L whose bits after the first L are 0, and no address"
         raise argparse.ArgumentTypeError(said) from error
-
-
-def address(text: str) -> IPv4Address:
-    try:
-        return IPv4Address(text)
-    except ValueError as error:
-        raise argparse.ArgumentTypeError(f"{text!r} is no Link State ID, A.B.C.D") from error
 
 
 def moment(text: str) -> str:
@@ -157,7 +150,8 @@ def with_own_words(one: argparse.ArgumentParser, name: str) -> None:
         about = "say whether all is well, a line for each complaint; the status is 0, 1 or 2, as Nagios has it"
         one.add_argument("--check", action="store_true", help=about)
     if name == "database":
-        one.add_argument("id", nargs="?", type=address, metavar="ID", help="a Link State ID")
+        about = "a Link State ID, A.B.C.D, or a destination, A.B.C.D/L"
+        one.add_argument("id", nargs="?", type=destination, metavar="ID", help=about)
     if name == "why":
         about = "A.B.C.D/L, or an address, whose longest prefix is meant"
         one.add_argument("destination", type=destination, metavar="PREFIX", help=about)
@@ -250,7 +244,12 @@ def checked_lines(path: Path, configuration: Configuration) -> list[str]:
 
     names = ", ".join(f"{each.name} {each.address}" for each in configuration.interfaces) or "none"
     said = f"{path}: nothing is wrong: router {configuration.router_id} at {names}"
-    return [said, FIT, *(f"warning: {each}" for each in warnings_of(configuration))]
+    programs = [
+        f"program at {each.hook}: {each.object}, bound {each.bound}"
+        for each in configuration.programs
+    ]
+    warnings = [f"warning: {each}" for each in warnings_of(configuration)]
+    return [said, FIT, *programs, *warnings]
 
 
 def client_of(words: argparse.Namespace) -> AbstractContextManager[Client]:

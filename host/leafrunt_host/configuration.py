@@ -27,7 +27,13 @@ from leafrunt_host.isolation import Account, account_of
 from leafrunt_host.journal import LEVELS
 from leafrunt_host.kernel import KernelInterface
 from leafrunt_host.kernel_settings import KernelSettings, kernel_settings_of, look_at_vrf
-from leafrunt_host.redistribution import Redistribution, redistribution_of, source_of
+from leafrunt_host.redistribution import (
+    MARTIANS,
+    NOT_ANNOUNCED,
+    Redistribution,
+    redistribution_of,
+    source_of,
+)
 from leafrunt_host.rooms import BOX_NAME, LONGEST_OBJECT
 from leafrunt_host.statuses import Status, Stopped
 from leafrunt_host.tables import Mistake, Table, shown, toml_of
@@ -43,6 +49,30 @@ INTERFACE_NAME = re.compile(r"(?!\.{1,2}$)[^\s/:%]{1,15}")
 KEY_NAME = re.compile(r"[A-Za-z0-9_-]{1,64}")
 HOOKS = ("count", "tag", "price", "veto")
 OBJECT_HEAD = b"BPFH\x01"
+ELF_HEAD = b"\x7fELF"
+ACCEPTED = re.compile(r"accepted bound (\d+)")
+REFUSALS = {
+    re.compile(r"object refusal (\d+)"): {
+        "1": "it is shorter than its header says",
+        "2": "it doesn't begin as an object does",
+        "3": "another version",
+        "4": "no hook",
+        "5": "its statements aren't in order",
+        "6": "a field that no object has, as one of big-endian code",
+        "7": "it is longer than its header says",
+    },
+    re.compile(r"code refusal (\d+)"): {
+        "1": "no whole slots",
+        "2": "an opcode that isn't known",
+        "3": "a register above 10",
+        "4": "a field that the instruction doesn't use, as of big-endian code",
+        "5": "it ends inside an instruction",
+        "6": "more than 4096 slots",
+    },
+    re.compile(r"refused slot \d+ (rule) "): {"rule": "`hooktool explain` says why"},
+}
+"""What numbers of refusals mean (docs/reference/FORMATS.md)."""
+ANNOUNCED = f"A.B.C.D/L whose bits after the first L are 0, not in {', '.join(NOT_ANNOUNCED)}"
 ROUTERD = "/usr/local/bin/routerd"
 SECONDS_TO_VERIFY = 60
 
@@ -76,6 +106,7 @@ class Program:
     object: Path
     hook: str
     digest: str = ""
+    bound: int = 0
 
 
 @dataclass(frozen=True)
@@ -634,8 +665,8 @@ class _Reader:
         prefixes: dict[IPv4Address, IPv4Network] = {}
         read: list[Announcement] = []
         for table in tables or []:
-            allowed = "A.B.C.D/L whose bits after the first L are 0"
-            prefix = table.parsed("prefix", allowed, prefix_of)
+            allowed = ANNOUNCED
+            prefix = table.parsed("prefix", allowed, announced_prefix)
             source = source_of(table)
             table.end()
             if prefix is not None and prefix.network_address in prefixes:
@@ -674,13 +705,28 @@ class _Reader:
             return None
         path = self._in_folder(text)
         found, hook = object_hook(path)
+        wanted = table.one_of("hook", HOOKS, hook or HOOKS[0])
+        bound = 0
         if hook and routerd:
             verdict = self._judge(routerd, path)
-            found = "" if verdict.startswith("accepted bound ") else verdict
+            accepted = ACCEPTED.fullmatch(verdict)
+            bound = int(accepted[1]) if accepted else 0
+            found = "" if accepted else refusal_text(verdict)
         if found:
             table.note("object", f"{shown(text)}: {found}", allowed)
             return None
-        return Program(path, hook, digest_of(path))
+        if wanted not in (None, hook):
+            table.note("object", f"{shown(text)}, for the hook {hook}", f"one for the hook {wanted}")
+        return Program(path, hook, digest_of(path), bound)
+
+
+def refusal_text(verdict: str) -> str:
+    """A refusal of `routerd verify` with what its number means."""
+    for form, meanings in REFUSALS.items():
+        read = form.match(verdict)
+        if read and read[1] in meanings:
+            return f"{verdict}: {meanings[read[1]]}"
+    return verdict
 
 
 def is_pattern(name: str | None) -> bool:
@@ -711,6 +757,14 @@ def prefix_of(text: str) -> IPv4Network:
     """A prefix with its length, in the form that `routerd` reads."""
     prefix = IPv4Network(text)
     if str(prefix) != text:
+        raise ValueError(text)
+    return prefix
+
+
+def announced_prefix(text: str) -> IPv4Network:
+    """The same of a destination that may be announced."""
+    prefix = prefix_of(text)
+    if prefix.prefixlen and any(each.has(prefix) for each in MARTIANS):
         raise ValueError(text)
     return prefix
 
@@ -751,6 +805,8 @@ def object_hook(path: Path) -> tuple[str, str]:
             head = it.read(16) if stat.S_ISREG(status.st_mode) else b""
     except (OSError, ValueError) as error:
         return str(getattr(error, "strerror", None) or error), ""
+    if head.startswith(ELF_HEAD):
+        return "an ELF file: `hooktool build` makes objects of it", ""
     if not head.startswith(OBJECT_HEAD) or len(head) < 16 or not 1 <= head[5] <= len(HOOKS):
         return "no object file", ""
     if status.st_size > LONGEST_OBJECT:

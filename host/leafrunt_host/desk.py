@@ -8,7 +8,7 @@ import threading
 import time
 from collections.abc import Callable
 from functools import partial
-from ipaddress import IPv4Address, IPv4Network
+from ipaddress import IPv4Network
 
 from leafrunt_host.announcements import Announcements
 from leafrunt_host.area import area_of
@@ -19,7 +19,7 @@ from leafrunt_host.documents import database_of, document
 from leafrunt_host.history import change_line, change_of, moment_of, prefix_of
 from leafrunt_host.journal import Kept, where_it_failed
 from leafrunt_host.kernel import KernelRoute, kernel_route
-from leafrunt_host.lsas import RouterBody
+from leafrunt_host.lsas import LsHeader, RouterBody
 from leafrunt_host.observing import Limiter
 from leafrunt_host.offers import offered, router_key
 from leafrunt_host.programs import attached
@@ -27,7 +27,15 @@ from leafrunt_host.router import LISTS, Router, RouterGone, RouterSilent
 from leafrunt_host.server import Answer, Asked
 from leafrunt_host.status import Known, neighbors_of, status_lines, status_of
 from leafrunt_host.statuses import FAILED, REFUSED, Status, Stopped
-from leafrunt_host.topology import Topology, database_lines, whole_lines
+from leafrunt_host.topology import (
+    Entry,
+    Topology,
+    database_lines,
+    is_of,
+    meant_by,
+    none_of,
+    whole_lines,
+)
 from leafrunt_host.why import Heard, Why, heard_of, own_links, prefix_asked
 from leafrunt_host.why_lines import why_lines
 
@@ -229,29 +237,26 @@ class Desk:
         words = rest.split(" ") if rest else []
         is_json = words[:1] == ["json"]
         try:
-            (identity,) = map(IPv4Address, words[is_json:]) if words[is_json:] else (None,)
+            (meant,) = map(meant_by, words[is_json:]) if words[is_json:] else (None,)
         except ValueError:
             raise Refused(
-                "after `database` comes `json` or nothing, and then a Link State ID, A.B.C.D, or nothing"
+                "after `database` comes `json` or nothing, and then a Link State ID, A.B.C.D, or a "
+                "destination, A.B.C.D/L, or nothing"
             ) from None
-        if is_json:
-            return [self._database_json(identity)]
-        if identity is None:
+        if not is_json and meant is None:
             return database_lines(self._topology)
-        lines = whole_lines(self._topology, identity)
-        if not lines:
-            raise Refused(f"no LSA has the Link State ID {identity}")
-        return lines
-
-    def _database_json(self, identity: IPv4Address | None) -> str:
-        """The LSAs, or those with this Link State ID, whole."""
         entries = self._topology.entries()
-        if identity is not None:
-            entries = [each for each in entries if each[0].key.id == identity]
+        if meant is not None:
+            entries = [each for each in entries if is_of(meant, *each)]
             if not entries:
-                raise Refused(f"no LSA has the Link State ID {identity}")
+                raise Refused(none_of(meant))
+        if is_json:
+            return [self._database_json(entries, is_whole=meant is not None)]
+        return whole_lines(entries)
+
+    def _database_json(self, entries: list[tuple[LsHeader, Entry]], is_whole: bool) -> str:
         name, left_out = self._known.configuration.name, self._topology.left_out
-        return json.dumps(database_of(name, entries, left_out, is_whole=identity is not None))
+        return json.dumps(database_of(name, entries, left_out, is_whole))
 
     def _map(self, rest: str) -> list[str]:
         area = area_of((header.key, entry.body) for header, entry in self._topology.entries())

@@ -49,6 +49,8 @@ PR_SET_NO_NEW_PRIVS = 38  # <linux/prctl.h>
 PR_CAP_AMBIENT, PR_CAP_AMBIENT_CLEAR_ALL = 47, 4  # the same
 SIOCSIFFLAGS = 0x8914  # <linux/sockios.h>
 IFF_UP = 0x1  # <linux/if.h>
+OF_NAMESPACES, OF_NETWORK, OF_USERS = "CAP_SYS_ADMIN", "CAP_NET_ADMIN", "CAP_SETUID and CAP_SETGID"
+"""Capabilities (capabilities(7)) that a namespace, its interface and another user need."""
 
 
 class CannotIsolate(Exception):
@@ -127,7 +129,10 @@ def enter_namespace() -> None:
     leaves."""
     libc_call("unshare", CLONE_NEWNET)
     with socket.socket(socket.AF_INET, socket.SOCK_DGRAM) as any_socket:
-        fcntl.ioctl(any_socket, SIOCSIFFLAGS, struct.pack("16sH22x", b"lo", IFF_UP))
+        try:
+            fcntl.ioctl(any_socket, SIOCSIFFLAGS, struct.pack("16sH22x", b"lo", IFF_UP))
+        except OSError as error:
+            raise OSError(error.errno, error.strerror, OF_NETWORK) from error
     libc_call("prctl", PR_SET_NO_NEW_PRIVS, 1, 0, 0, 0)
     libc_call("prctl", PR_CAP_AMBIENT, PR_CAP_AMBIENT_CLEAR_ALL, 0, 0, 0)
 
@@ -177,7 +182,7 @@ class World:
 
 def why_not_isolated(error: OSError) -> str:
     if error.errno in (errno.EPERM, errno.EACCES):
-        needs = "root, or the capability CAP_SYS_ADMIN, is needed"
+        needs = f"root, or the capability {error.filename or OF_NAMESPACES}, is needed"
     elif error.errno == errno.ENOSPC:
         needs = "there are too many of them: sysctl user.max_net_namespaces"
     else:

@@ -109,6 +109,8 @@ class Room:
     _claims: dict[str, TextIO] = field(default_factory=dict)
     _lent: Path | None = None
     _has_state: bool = True
+    fault: str = ""
+    """Why there is no folder for what is kept over a restart."""
 
     @property
     def socket(self) -> Path:
@@ -189,7 +191,7 @@ class Room:
             if why.status == Status.REFUSED:
                 raise
             log.warning("%s: sequence numbers aren't kept over a restart", why)
-            self._has_state = False
+            self._has_state, self.fault = False, str(why)
         self._lock, holder = locked(self.run / "lock", f"{os.getpid()}\n")
         if self._lock is None:
             process = f" (process {holder})" if holder.isdigit() else ""

@@ -16,7 +16,7 @@ from leafrunt_host.authentication import NeighborNumbers, SequenceNumbers
 from leafrunt_host.bridge import Bridge, CannotOpen
 from leafrunt_host.configuration import Configuration, InterfaceSettings
 from leafrunt_host.holding import Holding
-from leafrunt_host.isolation import World
+from leafrunt_host.isolation import OF_USERS, World
 from leafrunt_host.link import Interface, Link, Watch
 from leafrunt_host.own_lsas import OwnLsas
 from leafrunt_host.places import NO_EXTERNALS, Places
@@ -226,7 +226,10 @@ class Starter:
             lends = room.lent_object if world.account else nullcontext
             router = Router(program, path, told, world, lends, patience_of(configuration))
         except OSError as error:
-            raise Stopped(f"{program} can't be run: {error.strerror}") from error
+            needs = ""
+            if error.errno == errno.EPERM and world.account:
+                needs = f" (to run it as the user {world.account.name}, {OF_USERS} are needed)"
+            raise Stopped(f"{program} can't be run: {error.strerror}{needs}") from error
         try:
             if router.ask("neighbors", SECONDS_TO_START)[-1] == "end":
                 return router

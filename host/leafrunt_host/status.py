@@ -3,7 +3,7 @@ from __future__ import annotations
 
 import re
 import time
-from collections.abc import Mapping
+from collections.abc import Callable, Iterable, Mapping
 from dataclasses import dataclass, field, replace
 from ipaddress import IPv4Address, IPv4Network
 
@@ -31,6 +31,7 @@ SECONDS_TO_LOOK = 10.0
 NEIGHBOR = re.compile(r"neighbor (\d+) (\S+) (\w+)")
 SILENT = "{}: what is said here is from before"
 ALL_OUT = "the program at veto keeps all routes out: LSAs offer {}, and it lets none in"
+UNKEPT = "after a restart neighbors with keys may refuse this router for their RouterDeadInterval"
 PATTERN = "*?["
 """What makes a pattern of an interface's name (fnmatch(3)): there may be none of these."""
 MOST_STOPPED = 64
@@ -104,6 +105,8 @@ class Known:
     """BFD's, if an interface asks for it."""
     table_changes: tuple[tuple[float, TableChange], ...] = ()
     """What changed last of `routerd`'s table, and when."""
+    state_faults: Callable[[], Iterable[str]] = tuple
+    """Why numbers of authentication aren't kept over a restart."""
     not_reloaded: str | None = None
     """Why the last reload was refused, and when; None once another one is done."""
     file_fault: str | None = None
@@ -146,12 +149,15 @@ def warnings_of(configuration: Configuration) -> list[str]:
 
 def remarks_of(known: Known, now: float) -> list[str]:
     """What is wrong with the box as a whole, beside its interfaces."""
-    said = [each for step in known.steps if (each := step.remark(now))]
+    steps = known.steps
+    later = [sum(each.seconds for each in steps[at + 1 :]) for at in range(len(steps))]
+    said = [each for step, more in zip(steps, later) if (each := step.remark(now, more))]
     refused = known.refusal.remark(time.time()) if known.refusal else None
     if refused and known.refusal and not (said and known.refusal.is_of_clock):
         said.insert(0, refused)
     said += filter(None, [known.namesakes.remark(now) if known.namesakes else None])
     said += known.not_announced
+    said += [f"{each}: {UNKEPT}" for each in known.state_faults()]
     said += [each for each in (known.not_reloaded, known.file_fault) if each]
     if known.looked is not None and now - known.looked > SECONDS_TO_LOOK:
         said.append(

@@ -14,7 +14,7 @@ import time
 from collections import Counter, OrderedDict
 from collections.abc import Callable
 from dataclasses import replace
-from ipaddress import IPv4Address
+from ipaddress import IPv4Address, IPv4Network
 from typing import NamedTuple
 
 from leafrunt_host.exchange import Side
@@ -35,6 +35,7 @@ from leafrunt_host.lsas import (
     header_of,
     is_newer,
     is_whole,
+    network_of,
 )
 from leafrunt_host.packets import LSA_HEADER_LENGTH, Malformed, Packet, PacketType, chunks, lsas_of
 
@@ -295,10 +296,37 @@ def database_lines(topology: Topology) -> list[str]:
     return lines
 
 
-def whole_lines(topology: Topology, identity: IPv4Address) -> list[str]:
-    """The LSAs with this Link State ID, each with what its body says."""
-    found = [(header, entry) for header, entry in topology.entries() if header.key.id == identity]
-    lines = [HEADING] if found else []
+def meant_by(text: str) -> IPv4Address | IPv4Network:
+    """A Link State ID, or a destination. `ValueError` if it is neither."""
+    return IPv4Network(text) if "/" in text else IPv4Address(text)
+
+
+def is_of(meant: IPv4Address | IPv4Network, header: LsHeader, entry: Entry) -> bool:
+    """Whether an LSA has that Link State ID, or is of that destination, whose host bits its ID may
+    have set (RFC 2328, appendix E)."""
+    if isinstance(meant, IPv4Address):
+        return header.key.id == meant
+    match entry.body:
+        case ExternalBody(mask) | NetworkBody(mask):
+            return network_of(header.key.id, mask) == meant
+        case SummaryBody(mask) if header.key.type == LsType.SUMMARY:
+            return network_of(header.key.id, mask) == meant
+        case RouterBody(_, links):
+            stubs = (each for each in links if each.type == LinkType.STUB)
+            return any(network_of(each.id, each.data) == meant for each in stubs)
+    return False
+
+
+def none_of(meant: IPv4Address | IPv4Network) -> str:
+    """That no LSA is meant."""
+    if isinstance(meant, IPv4Network):
+        return f"no LSA announces {meant} (`why {meant}` says more)"
+    return f"no LSA has the Link State ID {meant} (A.B.C.D/L finds those of a destination)"
+
+
+def whole_lines(found: list[tuple[LsHeader, Entry]]) -> list[str]:
+    """These LSAs, each with what its body says."""
+    lines = [HEADING]
     for header, entry in found:
         lines += [database_line(header), *(f"  {each}" for each in body_lines(header, entry.body))]
     return lines

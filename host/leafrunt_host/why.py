@@ -13,6 +13,7 @@ from ipaddress import IPv4Address, IPv4Network
 
 from leafrunt_host.area import Vertex
 from leafrunt_host.documents import ROUTE, counter_values, document, hops_by
+from leafrunt_host.forwarding import is_martian
 from leafrunt_host.kernel import Holding, Json, routes_to
 from leafrunt_host.lsas import MAX_AGE, LinkType, LsHeader, LsType, RouterBody, RouterLink
 from leafrunt_host.offers import Found, Offer, Offers, announced_length, found_around
@@ -128,14 +129,16 @@ class Why:
     def _why_left_out(self) -> str | None:
         """Why what `routerd`'s table has isn't given to the kernel."""
         known, prefix = self._known, self._prefix
-        own = known.announced.get(prefix)
-        if own and own.answer == "originated":
+        own, line = known.announced.get(prefix), self._line or ""
+        if is_martian(str(prefix).encode()):
+            return "on purpose: no route leads to this network, loopback or multicast (RFC 1812, 5.3.7)"
+        if own and own.answer == "originated" and (not line or line.startswith("ext")):
             return f"on purpose: this box announces {prefix} itself (asked for by: {own.owner})"
-        if own:
+        if own and own.answer != "originated":
             return f"this box has it to announce (asked for by: {own.owner}), and the program at price withholds it"
         if self._line is None:
             return None
-        if self._line.endswith(f" via {OWN}"):
+        if line.startswith("intra") and line.endswith(f" via {OWN}"):
             return "on purpose: a network of this box's own interfaces, which the kernel has by itself"
         if not known.configuration.kernel:
             return "on purpose: `kernel = false`"

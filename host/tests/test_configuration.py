@@ -14,6 +14,7 @@ from leafrunt_host.configuration import (
     matches,
     object_hook,
     read_configuration,
+    refusal_text,
     verdict_of,
 )
 from leafrunt_host.isolation import Account
@@ -76,7 +77,7 @@ secret = "sixteen bytes ok"
 NUMBERS = "a whole number from {} to {}"
 DOTTED = "an address of four numbers that isn't 0.0.0.0, in quotes"
 PEER = "the neighbor's address, A.B.C.D in quotes"
-PREFIX = "A.B.C.D/L whose bits after the first L are 0"
+PREFIX = "A.B.C.D/L whose bits after the first L are 0, not in 0.0.0.0/8, 127.0.0.0/8, 169.254.0.0/16, 224.0.0.0/3"
 OBJECT = "the path of an object file that `routerd verify` accepts, without a space in it"
 TABLES = "tables, each begun with [[{}]]"
 LEVELS = 'one of "error", "warning", "info", "debug"'
@@ -503,7 +504,13 @@ MISTAKES = [
     ),
     (
         TOP + INTERFACE + '[[program]]\nobject = "refused.o"\n',
-        (("program 1, object", '"refused.o": refused slot 3 rule 7', OBJECT),),
+        (
+            (
+                "program 1, object",
+                '"refused.o": refused slot 3 rule 7: `hooktool explain` says why',
+                OBJECT,
+            ),
+        ),
     ),
     (
         TOP + INTERFACE + '[[program]]\nobject = "open.o"\n',
@@ -668,6 +675,40 @@ class Reading(Files):
             [(each.object, each.hook) for each in read.programs],
             [(self.folder / "veto.o", "veto")],
         )
+
+    def test_programs(self) -> None:
+        """The hook that is wanted, and what numbers of refusals mean."""
+        text = TOP + INTERFACE + '[[program]]\nobject = "veto.o"\n'
+        (program,) = self.read(text + 'hook = "veto"\n').programs
+        self.assertGreater(program.bound, 0)
+        (mistake,) = self.mistakes_of(text + 'hook = "count"\n')
+        self.assertEqual(mistake[1:], ('"veto.o", for the hook veto', "one for the hook count"))
+        ((_, found, _),) = self.mistakes_of(text + 'hook = "vetoes"\n')
+        self.assertEqual(found, '"vetoes"')
+        (self.folder / "veto.o").write_bytes(b"\x7fELF" + bytes(60))
+        ((_, found, _),) = self.mistakes_of(text)
+        self.assertIn("an ELF file: `hooktool build` makes objects of it", found)
+
+    def test_words_beside_numbers(self) -> None:
+        for verdict, words in (
+            ("object refusal 1", "shorter than its header says"),
+            ("object refusal 6", "big-endian"),
+            ("code refusal 4 slot 2", "big-endian"),
+            ("refused slot 3 rule 8", "hooktool explain"),
+        ):
+            self.assertTrue(refusal_text(verdict).startswith(f"{verdict}: "))
+            self.assertIn(words, refusal_text(verdict))
+        for verdict in ("object refusal 99", "cannot read /x", "out of memory"):
+            self.assertEqual(refusal_text(verdict), verdict)
+
+    def test_martians(self) -> None:
+        """What redistribution never announces isn't announced by name either; the default is."""
+        for prefix in ("127.0.0.0/8", "224.0.0.0/4", "169.254.1.0/24", "0.0.0.0/8", "240.0.0.0/5"):
+            ((where, found, allowed),) = self.mistakes_of(TOP + INTERFACE + f'[[announce]]\nprefix = "{prefix}"\n')
+            self.assertEqual((where, found), ("announce 1, prefix", f'"{prefix}"'))
+            self.assertIn("not in 0.0.0.0/8, 127.0.0.0/8", allowed)
+        default = '[[announce]]\nprefix = "0.0.0.0/0"\n'
+        self.assertEqual(len(self.read(TOP + INTERFACE + default).announcements), 1)
 
     def test_the_least_file(self) -> None:
         read = self.read(TOP + INTERFACE)
