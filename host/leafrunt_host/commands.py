@@ -5,6 +5,7 @@ import argparse
 import io
 import logging
 import os
+import re
 import sys
 import time
 from contextlib import AbstractContextManager, closing
@@ -26,6 +27,7 @@ from leafrunt_host.version import Version
 if TYPE_CHECKING:
     from leafrunt_host.configuration import Configuration
 
+LONGEST_CONFIRMED = 86_400
 LEAST_INTERVAL, MOST_INTERVAL = 0.5, 3600.0
 """Seconds between two looks of `watch`."""
 LISTS = ("status", *DOCUMENTS, "database", "why", "changes")
@@ -51,7 +53,7 @@ EXAMPLES = {
     "metrics": "leafrunt metrics\n  leafrunt metrics --format prometheus | sponge /var/lib/prometheus/node-exporter/leafrunt.prom",
     "map": "leafrunt map | dot -Tsvg >area.svg\n  leafrunt map --to 203.0.113.0/24 | dot -Tsvg >way.svg",
     "check": "leafrunt check /etc/leafrunt/one.toml",
-    "reload": "leafrunt reload\n  systemctl reload leafrunt@one",
+    "reload": "leafrunt reload --dry-run\n  leafrunt reload --confirm 5m && ping -c 3 10.0.1.2 && leafrunt reload --keep\n  leafrunt reload\n  systemctl reload leafrunt@one",
     "down": "leafrunt down --box one",
     "clear": "leafrunt clear --box one",
 }
@@ -104,6 +106,14 @@ def moment(text: str) -> str:
         said = f"{text!r} is no moment: 02:14, '2026-12-01 02:14', or 90m, 2h, 1d ago"
         raise argparse.ArgumentTypeError(said) from error
     return text
+
+
+def duration(text: str) -> int:
+    read = re.fullmatch(r"([1-9]\d{0,4})([smh])", text, re.ASCII)
+    seconds = int(read[1]) * {"s": 1, "m": 60, "h": 3600}[read[2]] if read else 0
+    if not 0 < seconds <= LONGEST_CONFIRMED:
+        raise argparse.ArgumentTypeError(f"{text!r} is no time of 1s to 24h: 30s, 5m, 1h")
+    return seconds
 
 
 def interval(text: str) -> float:
@@ -160,6 +170,14 @@ def with_own_words(one: argparse.ArgumentParser, name: str) -> None:
         one.add_argument("prefix", nargs="?", type=prefix, metavar="PREFIX", help=about)
         about = "from when on: 02:14, '2026-12-01 02:14', or 90m, 2h, 1d ago"
         one.add_argument("--since", type=moment, metavar="TIME", help=about)
+    if name == "reload":
+        way = one.add_mutually_exclusive_group()
+        about = "say what would change, and change nothing"
+        way.add_argument("--dry-run", action="store_true", help=about)
+        about = "take it back after TIME (30s, 5m, 1h) unless `reload --keep` comes before"
+        way.add_argument("--confirm", type=duration, metavar="TIME", help=about)
+        about = "keep what waits to be confirmed"
+        way.add_argument("--keep", action="store_true", help=about)
     if name == "watch":
         about = f"seconds between two looks, {LEAST_INTERVAL:g} to {MOST_INTERVAL:g} (default 1)"
         one.add_argument("--interval", type=interval, default=1.0, metavar="SECONDS", help=about)
@@ -312,8 +330,10 @@ def talk(words: argparse.Namespace) -> Status:
 
 
 def reload(words: argparse.Namespace) -> Status:
+    rest = ["dry-run"] if words.dry_run else ["keep"] if words.keep else []
+    rest += ["confirm", str(words.confirm)] if words.confirm else []
     with client_of(words) as client:
-        return say(own_answer(client.ask("reload")))
+        return say(own_answer(client.ask(" ".join(["reload", *rest]))))
 
 
 def down(words: argparse.Namespace) -> Status:

@@ -4,6 +4,7 @@ from __future__ import annotations
 
 import json
 import logging
+import re
 import threading
 import time
 from collections.abc import Callable
@@ -45,6 +46,7 @@ OF_PROGRAMS = ("attach", "detach")
 OF_ANNOUNCEMENTS = ("add", "withdraw")
 CHANGING = (*OF_PROGRAMS, *OF_ANNOUNCEMENTS, "capture", "reload", "down")
 """What lines that change something begin with: the log has them."""
+CONFIRMED_WITHIN = re.compile(r"[1-9]\d{0,4}", re.ASCII)
 SECONDS_FOR_A_LIST = 3.0
 """How long a list of `routerd` may take: it may be long, and the machine busy."""
 MOST_LOGGED = 100
@@ -77,9 +79,10 @@ class Desk:
         self.changing = threading.Lock()
         """Is held while a program is attached or detached, or a capture begins or ends."""
         self._capture: Capture | None = None
-        self.reload: Callable[[], list[str]] = lambda: []
-        """Takes the configuration over as it is now, and says what it did; `Stopped` if it is left
-        as it was."""
+        self.reloads: dict[str, Callable[[], list[str]]] = {}
+        self.reload_until_confirmed: Callable[[float], list[str]] = lambda _seconds: []
+        """Take the configuration over as it is now, or say what would be done, by the words after
+        `reload`, and say what they did; `Stopped` if it is left as it was."""
         self._own: dict[str, Callable[[str], list[str]]] = {
             "status": self._status,
             "interfaces": self._interfaces,
@@ -114,8 +117,8 @@ class Desk:
                 return Answer([*self._own[word](rest), "end"])
             if word == "capture":
                 return Answer([self._captured(rest, asked)])
-            if asked.line == "reload":
-                return Answer(self._reloaded())
+            if word == "reload":
+                return Answer(self._reloaded(rest))
             if asked.line == "down":
                 self._end()
                 return Answer(["ending"], stays=True)
@@ -135,10 +138,18 @@ class Desk:
             log.error("console: %.80r: %s", asked.line, where_it_failed(error))
             return Answer([f"refused: {where_it_failed(error)}"])
 
-    def _reloaded(self) -> list[str]:
+    def _reloaded(self, rest: str) -> list[str]:
         """A line for each thing that was done, or for each that is wrong."""
+        if rest not in self.reloads:
+            word, _, seconds = rest.partition(" ")
+            if word != "confirm" or not CONFIRMED_WITHIN.fullmatch(seconds):
+                raise Refused(
+                    "after `reload` comes nothing, `dry-run`, `confirm` with 1 to 86400 seconds, or `keep`"
+                )
         try:
-            return [*self.reload(), "end"]
+            if rest in self.reloads:
+                return [*self.reloads[rest](), "end"]
+            return [*self.reload_until_confirmed(float(seconds)), "end"]
         except Stopped as why:
             word = REFUSED if why.status == Status.REFUSED else FAILED
             return [f"{word}{each}" for each in str(why).splitlines()]

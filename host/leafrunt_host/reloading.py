@@ -29,6 +29,7 @@ from leafrunt_host.differences import (
     for_routerd,
     in_order_of,
     of_bridge,
+    would_change,
 )
 from leafrunt_host.forwarding import CannotKeep, KernelTable
 from leafrunt_host.handover import Handover, bfd_of, follow_numbers
@@ -38,12 +39,19 @@ from leafrunt_host.kernel_settings import KernelSettings
 from leafrunt_host.link import Link
 from leafrunt_host.redistributor import Redistributor, redistributor_of
 from leafrunt_host.rooms import Room
+from leafrunt_host.router import RouterGone
 from leafrunt_host.sockets import LOOPBACK
 from leafrunt_host.starting import Parts, interface_of
 from leafrunt_host.status import Known
 from leafrunt_host.statuses import Status, Stopped
 
 log = logging.getLogger("leafrunt.reload")
+NEEDS_START = "needs a new start: `leafrunt down`, then `leafrunt up`"
+KEEP = "`leafrunt reload --keep` keeps it"
+NOT_CONFIRMED = (
+    "nobody confirmed the reload, so the configuration before it stands again since {}; the file has "
+    "another one"
+)
 SECONDS_TO_FILL = 10.0
 """How long a table may take to get its first routes."""
 TAKEN = re.compile(r": (attached|detached) \w+|, stays$")
@@ -82,11 +90,16 @@ class Reloader:
     desk: Desk
     handover: Handover
     _one_at_a_time: threading.Lock = field(default_factory=threading.Lock)
+    _before: Configuration | None = None
+    """The configuration before a reload that waits to be confirmed."""
+    _taking_back: threading.Timer | None = None
 
     def reload(self, waits: bool = False) -> list[str]:
         """A line for each thing that was done. `Mistaken` or `Stopped` if the configuration is
         wrong, or can't be taken over now: then all is as it was. Another reload that is under way
         is waited for, or this one is refused."""
+        if self._before:
+            raise Stopped(f"a reload waits to be confirmed: {KEEP}", Status.REFUSED)
         if not self._one_at_a_time.acquire(blocking=waits):
             raise Stopped("another reload is under way: try again", Status.REFUSED)
         try:
@@ -101,6 +114,59 @@ class Reloader:
         for each in said:
             log.info("%s", each)
         return said
+
+    def dry_run(self) -> list[str]:
+        """What a reload would do now, a line for each thing; nothing is changed. `Stopped` where one
+        would be refused."""
+        old = self.known.configuration
+        new = in_order_of(self.read(old.path), old)
+        obstacles = list(another_router(old, new))
+        if obstacles:
+            raise Stopped("\n".join(f"{each}: {NEEDS_START}" for each in obstacles), Status.REFUSED)
+        before = self.room.claimed
+        self.room.claim(claims_of(new))
+        self.room.give_back(self.room.claimed - before)
+        return list(would_change(old, new, self.known.by_hand)) or ["nothing differs"]
+
+    def reload_until_confirmed(self, seconds: float) -> list[str]:
+        """Reloads, and takes that back after so long unless `keep` comes before (BIRD: `configure
+        timeout`)."""
+        before = self.known.configuration
+        said = self.reload()
+        if self.known.configuration == before:
+            return said
+        self._before = before
+        self._taking_back = threading.Timer(seconds, self._take_back)
+        self._taking_back.daemon = True
+        self._taking_back.start()
+        until = moment_text(time.time() + seconds)
+        self.known.unconfirmed = f"the last reload is taken back at {until}: {KEEP}"
+        return [*said, self.known.unconfirmed]
+
+    def keep(self) -> list[str]:
+        """The reload that waits to be confirmed stays."""
+        with self._one_at_a_time:
+            if self._before is None or self._taking_back is None:
+                raise Stopped("no reload waits to be confirmed", Status.REFUSED)
+            self._taking_back.cancel()
+            self._before = self.known.unconfirmed = None
+        return ["the reload is confirmed"]
+
+    def _take_back(self) -> None:
+        """Nobody confirmed it: the configuration before stands again."""
+        said = NOT_CONFIRMED.format(moment_text(time.time()))
+        with self._one_at_a_time:
+            before, self._before = self._before, None
+            if before is None:
+                return
+            try:
+                for each in self._taken_over(before):
+                    log.info("%s", each)
+            except (CannotOpen, CannotKeep, RouterGone, Stopped) as why:
+                said = f"nobody confirmed the reload, and it can't be taken back: {why}"
+            self.known.unconfirmed = None
+        self.known.not_reloaded = said
+        log.warning("%s", said)
 
     def _refused(self, why: Stopped) -> Stopped:
         """It stays in the log and in `status` until another reload is done."""
@@ -119,8 +185,7 @@ class Reloader:
         new = in_order_of(new, old)
         obstacles = list(another_router(old, new))
         if obstacles:
-            needs = "needs a new start: `leafrunt down`, then `leafrunt up`"
-            raise Stopped("\n".join(f"{each}: {needs}" for each in obstacles), Status.REFUSED)
+            raise Stopped("\n".join(f"{each}: {NEEDS_START}" for each in obstacles), Status.REFUSED)
         anew = list(for_routerd(old, new))
         with ExitStack() as undone:
             before = self.room.claimed

@@ -107,6 +107,8 @@ class Known:
     """What changed last of `routerd`'s table, and when."""
     state_faults: Callable[[], Iterable[str]] = tuple
     """Why numbers of authentication aren't kept over a restart."""
+    unconfirmed: str | None = None
+    """Until when a reload waits to be confirmed."""
     not_reloaded: str | None = None
     """Why the last reload was refused, and when; None once another one is done."""
     file_fault: str | None = None
@@ -158,7 +160,8 @@ def remarks_of(known: Known, now: float) -> list[str]:
     said += filter(None, [known.namesakes.remark(now) if known.namesakes else None])
     said += known.not_announced
     said += [f"{each}: {UNKEPT}" for each in known.state_faults()]
-    said += [each for each in (known.not_reloaded, known.file_fault) if each]
+    faults = (known.unconfirmed, known.not_reloaded, known.file_fault)
+    said += [each for each in faults if each]
     if known.looked is not None and now - known.looked > SECONDS_TO_LOOK:
         said.append(
             f"no look at `routerd` and the kernel's table has ended for {now - known.looked:.0f} s: "

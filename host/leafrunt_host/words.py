@@ -22,7 +22,7 @@ BOX_WORDS = {
     "map": "the area as a Graphviz graph; with a prefix after it the way there is marked",
     "log": "the log's last 40 lines; with a number after it that many",
     "capture FILE": "write all OSPF packets to a new pcap file; `capture off` ends that",
-    "reload": "take the configuration over as it is now; where it is wrong, nothing changes",
+    "reload": "take the configuration over as it is now; `dry-run` after it says what that would do",
     "down": "end this box: let the neighbors know, remove the kernel's routes, end `routerd`",
 }
 CLIENT_WORDS = {

@@ -26,7 +26,7 @@ from leafrunt_host.destinations import Announcement
 from leafrunt_host.exchange import Side
 from leafrunt_host.health import checked
 from leafrunt_host.journal import Kept as KeptLog
-from leafrunt_host.journal import one_line
+from leafrunt_host.journal import Shown, one_line, path_of
 from leafrunt_host.kernel_settings import KernelSettings
 from leafrunt_host.observing import Adjacencies, Report
 from leafrunt_host.owed import Owed
@@ -400,6 +400,34 @@ class Captures(unittest.TestCase):
 class Logs(unittest.TestCase):
     def test_one_line(self) -> None:
         self.assertEqual(one_line("a\x1b[2J\nb\u2028c\xe9"), "a [2J b c\xe9")
+
+    def test_a_file_that_was_rotated(self) -> None:
+        """It is made anew under its name, without a reload; what is no file any more stays as it is."""
+        with tempfile.TemporaryDirectory() as folder:
+            path, moved = Path(folder) / "log", Path(folder) / "log.1"
+            descriptor = os.open(path, os.O_WRONLY | os.O_CREAT)
+            shown = Shown(descriptor, logging.Formatter())
+
+            def say(text: str) -> None:
+                shown.emit(logging.makeLogRecord({"msg": text}))
+                shown.flush()
+
+            say("one")
+            path.rename(moved)
+            say("two")
+            self.assertEqual((moved.read_text(), path.read_text()), ("one\n", "two\n"))
+            path.unlink()
+            path.symlink_to(moved)
+            say("three")
+            self.assertEqual(moved.read_text(), "one\n")
+            path.unlink()
+            say("four")
+            self.assertEqual(path.read_text(), "four\n")
+            shown._descriptor = os.open(os.devnull, os.O_WRONLY)
+        reader, writer = os.pipe()
+        self.assertIsNone(path_of(writer))
+        os.close(reader)
+        os.close(writer)
 
     def test_nothing_is_asked_for(self) -> None:
         self.assertEqual(KeptLog().last(0), [])

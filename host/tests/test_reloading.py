@@ -671,6 +671,57 @@ class Taking(unittest.TestCase):
         self.assertEqual(it.reloader.reload(), ["/a.o: attached veto bound 9"])
         self.assertEqual(it.reloader.reload(), ["nothing differs"])
 
+    def test_dry_run(self) -> None:
+        """What would change, and nothing does."""
+        one, two = configuration().interfaces
+        it = self.fakes(configuration(one, two))
+        self.assertEqual(it.reloader.dry_run(), ["nothing differs"])
+        program = Program(Path("/a.o"), "veto", "1")
+        it.new = configuration(replace(one, cost=20, keys=KEYS), two, programs=(program,), log_level="debug")
+        said = [
+            "eth1: cost 20 in place of 10",
+            "another routerd takes over for that, and adjacencies stay",
+            "eth1: keys 1, 2",
+            "log_level: debug",
+            "veto: /a.o",
+        ]
+        self.assertEqual(it.reloader.dry_run(), said)
+        it.known.programs = {"veto": Attached("/b.o", 5, "root")}
+        it.known.by_hand = {"veto"}
+        self.assertIn("attached by hand stays", it.reloader.dry_run()[-1])
+        self.assertEqual(it.did, [])
+        it.new = replace(it.new, router_id=IPv4Address("9.9.9.9"))
+        self.assertRaisesRegex(Stopped, "needs a new start", it.reloader.dry_run)
+
+    def test_until_it_is_confirmed(self) -> None:
+        """It stays if that comes in time; else what was before stands again."""
+        one, two = configuration().interfaces
+        old = configuration(one, two)
+        new = configuration(one, two, log_level="debug")
+        it = self.fakes(old)
+        it.known.not_reloaded = it.known.unconfirmed = None
+        self.assertEqual(it.reloader.reload_until_confirmed(60), ["nothing differs"])
+        self.assertRaisesRegex(Stopped, "no reload waits", it.reloader.keep)
+        it.new = new
+        with mock.patch("leafrunt_host.reloading.set_level"):
+            said = it.reloader.reload_until_confirmed(60)
+            self.assertRegex(said[-1], r"^the last reload is taken back at \d{4}-")
+            self.assertEqual(it.known.unconfirmed, said[-1])
+            self.assertRaisesRegex(Stopped, "waits to be confirmed", it.reloader.reload)
+            self.assertEqual(it.reloader.keep(), ["the reload is confirmed"])
+            self.assertIsNone(it.known.unconfirmed)
+            self.assertEqual(it.known.configuration.log_level, "debug")
+            it.new = old
+            it.reloader.reload()
+            it.new = new
+            with self.assertLogs("leafrunt.reload", "WARNING") as logged:
+                it.reloader.reload_until_confirmed(0.05)
+                it.reloader._taking_back.join(5)
+        self.assertEqual(it.known.configuration.log_level, "info")
+        self.assertIn("nobody confirmed the reload", logged.output[-1])
+        self.assertIn("the file has another one", it.known.not_reloaded)
+        self.assertEqual(it.reloader.dry_run(), ["log_level: debug"])
+
     def test_a_refused_one_is_remembered(self) -> None:
         """Until one is done: whoever looks at three in the morning has no other way to know."""
         one, two = configuration().interfaces
