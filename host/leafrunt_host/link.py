@@ -513,6 +513,7 @@ class Link:
     def _one_way(self) -> Sent:
         """The neighbor's last Hello, naming nobody."""
         lost = self._hello
+        self.owed.clear()
         is_told = lost is not None and self._is_neighbor(lost.router_id)
         return Sent(to_router=[farewell(lost).encode()] if lost and is_told else [])
 

@@ -200,7 +200,7 @@ def interface_status(known: Known, number: int, each: InterfaceSettings) -> Json
     if link is None:
         return said
     neighbor = known.neighbors.get(number)
-    if neighbor:
+    if neighbor and link.is_usable:
         address, began = link.next_hop(neighbor.router_id), since(known, neighbor)
         said["neighbor"] = {
             "router_id": str(neighbor.router_id),

@@ -58,6 +58,7 @@ class StandInLink:
     counters: Counter[str] = field(default_factory=lambda: Counter({"in": 3}))
     owed: Owed = field(default_factory=Owed)
     withholds: bool = False
+    is_usable: bool = True
 
     def reports(self, _now: float) -> list[Report]:
         return self.said

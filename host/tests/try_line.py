@@ -433,6 +433,46 @@ def links(given: Try) -> None:
     frr.stop()
 
 
+OUTAGE, SETTLED = 30, 30
+"""Seconds without a link, less than RouterDeadInterval at the default, and seconds after it in which
+the adjacency may not begin anew."""
+
+
+def outage(given: Try) -> None:
+    """A link that is lost for less than RouterDeadInterval and comes back: it has no neighbor
+    meanwhile, and the adjacency comes once, soon after it."""
+    network, looks = given.network, given.looks
+    own, far = network.namespace("box"), network.namespace("bird")
+    network.link(End(own, "eth1", "10.0.1.1/24"), End(far, "eth1", "10.0.1.2/24"))
+    side = Side("eth1", (SHA,))
+    bird = Bird(network, far, "2.2.2.2", [side])
+    box = Box(network, given.routerd, own, "box", "1.1.1.1", [side])
+    box.start()
+    bird.start()
+
+    def is_up() -> bool:
+        return is_full(box, "2.2.2.2") and is_full(bird, "1.1.1.1")
+
+    looks.timed("Full", TIMERS.comes_up, is_up)
+    before = len(box.log_lines())
+    run("ip", "-n", far, "link", "set", "eth1", "down")
+    looks.timed("a link is lost: `status` has no neighbor there", 3, lambda: neighbor_of(box) is None)
+    time.sleep(OUTAGE)
+    run("ip", "-n", far, "link", "set", "eth1", "up")
+    looks.timed(f"it is back after {OUTAGE} s: Full", TIMERS.hello + 5, is_up)
+    time.sleep(SETTLED)
+    said = [each for each in box.log_lines()[before:] if "-> Full" in each or "Full ->" in each]
+    looks.look("the adjacency went once and came once", len(said) == 2, "; ".join(said))
+    box.stop()
+    bird.stop()
+
+
+def neighbor_of(box: Box) -> object:
+    """What the status has of the neighbor at its interface."""
+    (interface,) = box.reported()["interfaces"] or [{"neighbor": "no status"}]
+    return interface["neighbor"]
+
+
 def is_one_way(notices: str) -> bool:
     """Whether the last one of FRR's network has a next hop and no list of them."""
     last = [each for each in notices.splitlines() if "172.16.2.0/24" in each][-1:]
