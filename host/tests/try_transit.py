@@ -63,21 +63,26 @@ class Losses:
 
     def end(self) -> tuple[int, str]:
         """How many were lost, and when and how many at a time, in words."""
+        lost, sent, gaps = self.counted()
+        said = f"{lost} of {sent} packets ({lost * 5} ms)"
+        few = ", ".join(f"{count} at {at:.2f} s" for at, count in gaps[:6])
+        return lost, f"{said}: {few}" if gaps else said
+
+    def counted(self) -> tuple[int, int, list[tuple[float, int]]]:
+        """How many were lost and sent, and after how many seconds how many at a time were lost."""
         assert self._ran.stdin
         self._ran.stdin.close()
-        gaps, line = [], self._line()
+        gaps, line = list[tuple[float, int]](), self._line()
         while line and not line.startswith("sent "):
             at, count = line.split()
-            gaps.append(f"{count} at {float(at):.2f} s")
+            gaps.append((float(at), int(count)))
             line = self._line()
         words = line.split()
         self._ran.stdin = None
         self._network.stop(self._ran)
         if len(words) != 4:
             raise CannotTry("the packets weren't counted")
-        lost = int(words[3])
-        said = f"{lost} of {words[1]} packets ({lost * 5} ms)"
-        return lost, f"{said}: {', '.join(gaps[:6])}" if gaps else said
+        return int(words[3]), int(words[1]), gaps
 
 
 class Transit:
