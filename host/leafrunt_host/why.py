@@ -15,6 +15,7 @@ from leafrunt_host.area import Vertex
 from leafrunt_host.documents import ROUTE, counter_values, document, hops_by
 from leafrunt_host.forwarding import is_martian
 from leafrunt_host.kernel import Holding, Json, routes_to
+from leafrunt_host.lines_of_c import Lines
 from leafrunt_host.lsas import MAX_AGE, LinkType, LsHeader, LsType, RouterBody, RouterLink
 from leafrunt_host.offers import Found, Offer, Offers, announced_length, found_around
 from leafrunt_host.programs import has_changed
@@ -207,7 +208,7 @@ class Why:
         account = self._known.configuration.account
         trial = Trial(it, question, self._known.configuration.routerd, account)
         verdict = trial.verdict(self._rows(), list(counter_values(self._heard.counters).items()))
-        leans = leans_on(it.data)
+        leans, lines = leans_on(it.data), Lines(it)
         return {
             "hook": "veto",
             "object": it.object,
@@ -233,6 +234,7 @@ class Why:
                     "instruction": each.instruction,
                     "holds": each.is_taken,
                     "registers": each.values,
+                    "line": lines.at(each.slot) or None,
                 }
                 for each in verdict.tests
             ],

@@ -106,7 +106,9 @@ def program_lines(program: Json | None) -> Iterator[str]:
     yield f"  asked: {said}, distance {it['distance']}, {hops}"
     for each in program["tests"]:
         values = ", ".join(f"{name} = {value_text(n)}" for name, n in each["registers"].items())
-        yield f"  slot {each['slot']}: {each['instruction']}: {'yes' if each['holds'] else 'no'} ({values})"
+        holds = "yes" if each["holds"] else "no"
+        line = f"   {each['line']}" if each["line"] else ""
+        yield f"  slot {each['slot']}: {each['instruction']}: {holds} ({values}){line}"
 
 
 def change_lines(changes: list[Json]) -> Iterator[str]:

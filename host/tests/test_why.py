@@ -1,9 +1,12 @@
 """`leafrunt why`: causes for which a destination is missing, by LSAs as bytes (RFC 2328, A.4)."""
+import hashlib
 import json
 import struct
+import tempfile
 import unittest
 from dataclasses import replace
 from ipaddress import IPv4Address, IPv4Network
+from pathlib import Path
 from unittest import mock
 
 from leafrunt_host import why as whys
@@ -11,6 +14,7 @@ from leafrunt_host.announcements import Announced
 from leafrunt_host.destinations import Announcement, Owner
 from leafrunt_host.exchange import Side
 from leafrunt_host.kernel import DST, DST_KIND, Holding, Json, KernelRoute, Way, may_hold
+from leafrunt_host.lines_of_c import Lines
 from leafrunt_host.lsas import MAX_AGE
 from leafrunt_host.observing import Report
 from leafrunt_host.programs import Attached
@@ -274,6 +278,27 @@ class Whys(unittest.TestCase):
                 self.assertEqual(test_at(0, (opcode, 2, 1, number_), "", held).is_taken, holds)
         both = test_at(0, (0x2D, 0x32, 1, 0), "", {"r2": 9, "r3": 8})
         self.assertEqual((both.is_taken, both.values), (True, {"r2": 9, "r3": 8}))
+
+
+class LinesOfC(unittest.TestCase):
+    def test_beside_an_object(self) -> None:
+        """A slot's line holds up to the next one; a file of another object says nothing."""
+        with tempfile.TemporaryDirectory() as folder:
+            path = Path(folder) / "no_long.o"
+            program = Attached(str(path), 5, "", 0.0, NO_LONG)
+            self.assertEqual(Lines(program).at(2), "")
+            head = f"lines 1\nobject {hashlib.sha256(NO_LONG).hexdigest()}\nfile 1 /src/no_long.c\n"
+            beside = Path(folder) / "no_long.lines"
+            beside.write_text(head + "slot 0 1 8\nslot 1 1 9 return route->length > 24;\nslot 4 0 0\n")
+            lines = Lines(program)
+            said = [lines.at(slot) for slot in range(6)]
+            test = "no_long.c:9: return route->length > 24;"
+            self.assertEqual(said, ["no_long.c:8: ", test, test, test, "", ""])
+            beside.write_text(head.replace("object ", "object 0") + "slot 0 1 8 x\n")
+            self.assertEqual(Lines(program).at(0), "")
+            for damaged in ("slot", "slot x 1 1 y", "slot 1 7 1 y", "slot 999999999 1 1 y", "file", "\0"):
+                beside.write_text(f"{head}{damaged}\n")
+                self.assertEqual(Lines(program).at(3), "")
 
 
 class Bodies(unittest.TestCase):
