@@ -2,36 +2,32 @@
 from __future__ import annotations
 
 import argparse
-import io
-import logging
 import os
 import re
 import sys
 import time
-from contextlib import AbstractContextManager, closing
-from dataclasses import replace
-from ipaddress import IPv4Address, IPv4Network
 from pathlib import Path
 from typing import TYPE_CHECKING
 
-from leafrunt_host import console
-from leafrunt_host.client import Client, chosen_box, own_answer
-from leafrunt_host.health import Health, checked
-from leafrunt_host.journal import LEVELS, is_journal, one_line, start_log
-from leafrunt_host.listing import DOCUMENTS, box_status, listed
-from leafrunt_host.metrics import FORMATS
-from leafrunt_host.rooms import RUN, STATE, Room
+from leafrunt_host.folders import RUN, STATE
 from leafrunt_host.statuses import Status, Stopped
 from leafrunt_host.version import Version
 
 if TYPE_CHECKING:
+    from contextlib import AbstractContextManager
+    from ipaddress import IPv4Network
+
+    from leafrunt_host.client import Client
     from leafrunt_host.configuration import Configuration
 
 LONGEST_CONFIRMED = 86_400
 LEAST_INTERVAL, MOST_INTERVAL = 0.5, 3600.0
 """Seconds between two looks of `watch`."""
+DOCUMENTS = ("table", "neighbors", "interfaces", "announced", "programs", "counters")
 LISTS = ("status", *DOCUMENTS, "database", "why", "changes")
 """What lists something of a box, and takes `--json`."""
+LEVELS = ("error", "warning", "info", "debug")
+FORMATS = ("openmetrics", "prometheus")
 ABOUT = """A box that routes: `routerd`, an OSPF router, on this host, among BIRD, FRR and others.
 
 docs/use/HOST.md tells how to set up a network with it. Statuses: 0 done; 1 refused; 2 wrong words;
@@ -80,7 +76,13 @@ TITLES = {
 }
 
 
+# (each command loads its own part alone, and `--help` none: a client isn't to wait for what a box
+# is made of)
+
+
 def prefix(text: str) -> IPv4Network:
+    from ipaddress import IPv4Network
+
     try:
         return IPv4Network(text)
     except ValueError as error:
@@ -90,6 +92,8 @@ def prefix(text: str) -> IPv4Network:
 
 
 def destination(text: str) -> str:
+    from ipaddress import IPv4Address, IPv4Network
+
     try:
         return str(IPv4Network(text) if "/" in text else IPv4Address(text))
     except ValueError as error:
@@ -219,13 +223,15 @@ FIT = (
 """Which networks a box isn't for: see `withheld`, which names what is above that."""
 
 
-# (each command loads its own part alone: a client isn't to wait for what a box is made of)
-
-
 def up(words: argparse.Namespace) -> Status:
+    import logging
+    from dataclasses import replace
+
     from leafrunt_host.box import Box
     from leafrunt_host.configuration import read_configuration
+    from leafrunt_host.journal import start_log
     from leafrunt_host.kernel import kernel_interfaces
+    from leafrunt_host.rooms import Room
 
     log = start_log(words.log_level or "info")
 
@@ -272,11 +278,17 @@ def checked_lines(path: Path, configuration: Configuration) -> list[str]:
 
 def client_of(words: argparse.Namespace) -> AbstractContextManager[Client]:
     """A connection to the box that is meant."""
+    from contextlib import closing
+
+    from leafrunt_host.client import Client
+
     return closing(Client(words.run_directory, words.box))
 
 
 def say(lines: list[str]) -> Status:
     """Prints what a box says; no byte of it acts on a terminal."""
+    from leafrunt_host.journal import one_line
+
     for each in lines:
         print(one_line(each))
     return Status.DONE
@@ -286,6 +298,9 @@ def status_or_check(words: argparse.Namespace) -> int:
     """`status`; with `--check` whether the box is well, also if there is none."""
     if not words.check:
         return list_what_is_there(words)
+    from leafrunt_host.health import Health, checked
+    from leafrunt_host.listing import box_status
+
     try:
         with client_of(words) as client:
             health, lines = checked(box_status(client))
@@ -296,6 +311,8 @@ def status_or_check(words: argparse.Namespace) -> int:
 
 
 def list_what_is_there(words: argparse.Namespace) -> Status:
+    from leafrunt_host.listing import listed
+
     with client_of(words) as client:
         lines = listed(client, words)
     return say([line for each in lines for line in each.split("\n")])
@@ -309,6 +326,8 @@ def follow(words: argparse.Namespace) -> Status:
 
 
 def metrics(words: argparse.Namespace) -> Status:
+    import io
+
     from leafrunt_host.metrics import metrics_of
 
     with client_of(words) as client:
@@ -320,16 +339,22 @@ def metrics(words: argparse.Namespace) -> Status:
 
 
 def area_map(words: argparse.Namespace) -> Status:
+    from leafrunt_host.client import own_answer
+
     with client_of(words) as client:
         return say(own_answer(client.ask(f"map {words.to}" if words.to else "map")))
 
 
 def talk(words: argparse.Namespace) -> Status:
+    from leafrunt_host import console
+
     with client_of(words) as client:
         return console.run(client, words.lines)
 
 
 def reload(words: argparse.Namespace) -> Status:
+    from leafrunt_host.client import own_answer
+
     rest = ["dry-run"] if words.dry_run else ["keep"] if words.keep else []
     rest += ["confirm", str(words.confirm)] if words.confirm else []
     with client_of(words) as client:
@@ -337,6 +362,8 @@ def reload(words: argparse.Namespace) -> Status:
 
 
 def down(words: argparse.Namespace) -> Status:
+    from leafrunt_host.client import own_answer
+
     with client_of(words) as client:
         own_answer(client.ask("down"))
         ended = " ".join(client.answer())
@@ -346,6 +373,8 @@ def down(words: argparse.Namespace) -> Status:
 
 def clear(words: argparse.Namespace) -> Status:
     from leafrunt_host import remains
+    from leafrunt_host.client import chosen_box
+    from leafrunt_host.rooms import Room
 
     name, run = chosen_box(words.run_directory, words.box), words.run_directory.absolute()
     return say(remains.clear(Room(name, run / name, STATE / name)))
@@ -374,6 +403,8 @@ def main(arguments: list[str]) -> int:
         sys.stdout.flush()
         return done
     except Stopped as why:
+        from leafrunt_host.journal import is_journal, one_line
+
         head = "<3>" if is_journal(sys.stderr) else ""
         for line in str(why).splitlines():
             print(f"{head}leafrunt: {one_line(line)}", file=sys.stderr)

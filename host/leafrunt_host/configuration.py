@@ -601,8 +601,11 @@ class _Reader:
             if those:
                 allowed = f"an address of the interface with its prefix length: {those}"
             address = table.parsed("address", allowed, IPv4Interface)
-            if address is not None and (is_of_many or (those and address not in everything)):
-                table.note("address", shown(str(address)), allowed)
+            is_other = address is not None and (address.is_loopback or (those and address not in everything))
+            if address is not None and (is_of_many or is_other):
+                why = "" if is_of_many else ", which the interface doesn't have"
+                why = ", of the loopback, which no neighbor reaches" if address.is_loopback else why
+                table.note("address", f"{shown(str(address))}{why}", allowed)
                 return None
             return address
         table.text("address", "", "none")

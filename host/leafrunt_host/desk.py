@@ -287,7 +287,10 @@ class Desk:
     def _destination(self, route: KernelRoute) -> Destination:
         """The kernel's route, by the addresses of the interfaces that it leaves by."""
         addresses = {each.name: each.address.ip for each in self._known.configuration.interfaces}
-        ways = [f"{each.address or 'its own network'} {each.interface}" for each in route.ways]
+        ways = [
+            f"via {each.address} dev {each.interface}" if each.address else f"dev {each.interface}"
+            for each in route.ways
+        ]
         said = f"the kernel's route to {route.prefix}: {' and '.join(ways) or 'none of its interfaces'}"
         foreign = [each.interface for each in route.ways if each.interface not in addresses]
         if foreign:

@@ -8,7 +8,7 @@ error, and never part of a document.
 from __future__ import annotations
 
 import re
-from collections.abc import Iterable
+from collections.abc import Callable, Iterable
 from typing import TYPE_CHECKING
 
 from leafrunt_host.lsas import (
@@ -262,3 +262,14 @@ def link_of(link: RouterLink) -> Json:
         "link_data": str(link.data),
         "metric": link.metric,
     }
+
+
+DOCUMENTS: dict[str, Callable[[Json, Iterable[str]], Json]] = {
+    "table": table_of,
+    "neighbors": neighbors_of,
+    "interfaces": lambda status, _lines: interfaces_of(status),
+    "announced": announced_of,
+    "programs": programs_of,
+    "counters": counters_of,
+}
+"""The document of each list, made of the box's status and the lines of the console."""

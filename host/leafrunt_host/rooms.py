@@ -18,8 +18,6 @@ from typing import TextIO
 from leafrunt_host.statuses import Status, Stopped
 
 log = logging.getLogger("leafrunt.room")
-RUN = Path("/run/leafrunt")
-STATE = Path("/var/lib/leafrunt")
 BOX_NAME = re.compile(r"[A-Za-z0-9][A-Za-z0-9._-]{0,63}")
 CLAIMS = ".claims"
 """In the folder of running boxes: no box has such a name."""

@@ -83,20 +83,43 @@ TABLES = "tables, each begun with [[{}]]"
 LEVELS = 'one of "error", "warning", "info", "debug"'
 COUNTER_NAME = "1 to 64 letters, digits and `_`, first no digit"
 TOML = "TOML 1.0, as toml.io describes it"
-TOP_KEYS = "router_id, isolated, user, routerd, kernel, log_level, passive, interface, announce, program, counters, redistribute"
+TOP_KEYS = "router_id, isolated, user, routerd, kernel, log_level, passive, keys, interface, announce, program, counters, redistribute"
 INTERFACE_KEYS = "name, passive, address, cost, hello_interval, dead_interval, retransmit_interval, transmit_delay, keys, bfd, peer"
 OF_ETH1 = "interface 1 (eth1), "
 NAME = "the name of an interface, or a pattern of names: at most 15 bytes, no space, / or :"
 KNOWN_KEYS = "names of keys: new, old"
 PRIVATE = "a file of keys that only its owner can read"
 
+ON_ONE_LINE = f"a key, = and its value on one line; {TOML}"
+QUOTED = "texts stand in double quotes, addresses too"
+
 MISTAKES = [
     # the text, and of each mistake where it is, what is found, what is allowed
     (
         "router_id",
-        (("end of document", "no TOML (Expected '=' after a key in a key/value pair)", TOML),),
+        (("end of document", "no TOML (Expected '=' after a key in a key/value pair)", ON_ONE_LINE),),
     ),
-    (TOP + TOP, (("line 3, column 22", "no TOML (Cannot overwrite a value)", TOML),)),
+    (
+        "router_id = 1.1.1.1\n",
+        (
+            (
+                "line 1, column 16",
+                "no TOML (Expected newline or end of document after a statement)",
+                f"{QUOTED}; {TOML}",
+            ),
+        ),
+    ),
+    (
+        TOP + "[[interface]]\nname = eth1\n",
+        (
+            (
+                "line 4, column 8",
+                "no TOML (Invalid value)",
+                f"{QUOTED}; true, false and numbers don't; {TOML}",
+            ),
+        ),
+    ),
+    (TOP + TOP, (("line 3, column 22", "no TOML (Cannot overwrite a value)", f"each key once; {TOML}"),)),
     (
         f"{TOP}x = {'9' * 5000}\n",
         (("the file", "a value that is too long", "numbers of at most 4300 digits"),),
@@ -260,7 +283,7 @@ MISTAKES = [
         (
             (
                 OF_ETH1 + "address",
-                '"10.0.1.2/24"',
+                '"10.0.1.2/24", which the interface doesn\'t have',
                 "an address of the interface with its prefix length: 10.0.1.1/24",
             ),
         ),
@@ -546,7 +569,7 @@ KEY_TABLE = "a table for each key, begun with its name: [letters, digits, `_`, `
 KEY_MISTAKES = [
     (
         "secret is here",
-        (("line 1, column 8", "no TOML (Expected '=' after a key in a key/value pair)", TOML),),
+        (("line 1, column 8", "no TOML (Expected '=' after a key in a key/value pair)", ON_ONE_LINE),),
     ),
     ('a = "secret"\n', (("a", "no table", KEY_TABLE),)),
     (ONE_KEY.replace("[a]", '["a b"]'), (('"a b"', "this name", KEY_TABLE),)),

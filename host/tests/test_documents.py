@@ -18,10 +18,9 @@ from leafrunt_host import client as clients
 from leafrunt_host.announcements import Owner
 from leafrunt_host.authentication import Algorithm, Key
 from leafrunt_host.commands import LISTS, main
-from leafrunt_host.documents import VERSIONS, database_of, schema_of
+from leafrunt_host.documents import DOCUMENTS, VERSIONS, database_of, schema_of
 from leafrunt_host.exchange import Side
 from leafrunt_host.kernel import Json
-from leafrunt_host.listing import DOCUMENTS
 from leafrunt_host.observing import Report
 from leafrunt_host.status import status_of
 from leafrunt_host.statuses import Stopped
