@@ -201,7 +201,7 @@ class Handover:
     def _prepared(self, router: Router, programs: dict[str, str]) -> Prepared:
         """Attaches the programs and announces all destinations."""
         found: dict[str, Attached] = {}
-        given = {}
+        given: dict[IPv4Network, Announced] = {}
         for path in programs.values():
             answer = router.ask(f"attach {path}")[0]
             its = attached(answer, path)
@@ -209,12 +209,12 @@ class Handover:
                 raise Stopped(f"{path}: {answer}")
             for hook, it in its.items():
                 before = self.known.programs.get(hook)
-                is_same = before is not None and before.object == path
-                found[hook] = it._replace(by=before.by, at=before.at) if is_same else it
-        for prefix, it in dict(self.known.announced).items():
-            answer = router.ask(it.announcement.line())[0]
+                is_same = before and before.object == path
+                found[hook] = it._replace(by=before.by, at=before.at) if before and is_same else it
+        for prefix, one in dict(self.known.announced).items():
+            answer = router.ask(one.announcement.line())[0]
             if answer in TAKEN:
-                given[prefix] = it._replace(answer=answer)
+                given[prefix] = one._replace(answer=answer)
         return Prepared(found, given)
 
     def _is_to_find_all(self, new: Configuration, programs: dict[str, str]) -> bool:

@@ -15,7 +15,7 @@ from typing import NamedTuple
 from leafrunt_host.clock import moment_text
 from leafrunt_host.kernel import Json
 from leafrunt_host.lsas import MAX_AGE, LsType, header_of
-from leafrunt_host.table_changes import route_changes
+from leafrunt_host.table_changes import RouteChange, route_changes
 from leafrunt_host.written import replace_file
 
 log = logging.getLogger("leafrunt.box")
@@ -94,6 +94,11 @@ class Causes:
         return lsa_text(data) if time.monotonic() - at <= SECONDS_BEFORE else of_all
 
 
+def is_of_area(change: RouteChange) -> bool:
+    """Whether a way of the area came or went, which no LSA of the destination itself announces."""
+    return any((each or "").startswith("intra ") for each in (change.before, change.after))
+
+
 def lsa_text(data: bytes) -> str:
     """An LSA that came, in words."""
     header = header_of(data)
@@ -157,7 +162,7 @@ class History:
         self._add(
             Change(
                 *(now, "route", each.prefix, named(each.before, names), named(each.after, names)),
-                causes.of(each.prefix, of_all),
+                of_all if is_of_area(each) else causes.of(each.prefix, of_all),
             )
             for each in route_changes(gone, come)
         )

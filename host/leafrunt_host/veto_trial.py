@@ -17,7 +17,8 @@ from dataclasses import dataclass
 from ipaddress import IPv4Address, IPv4Network
 from pathlib import Path
 
-from leafrunt_host.isolation import ADDRESS_SPACE, ENVIRONMENT, PLACES, Account
+from leafrunt_host.confined import ADDRESS_SPACE
+from leafrunt_host.isolation import ENVIRONMENT, PLACES, Account
 from leafrunt_host.programs import Attached
 
 SECONDS = 3.0

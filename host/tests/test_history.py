@@ -69,6 +69,7 @@ class Histories(unittest.TestCase):
         it.causes.lsa(router_lsa("2.2.2.2"))
         it.causes.lsa(external(A.decode(), "2.2.2.2", age=3600))
         it.routes({**line(A), **line(B)}, {}, NAMES)
+        it.routes({}, line(A, b"intra 20 via 1"), NAMES)
         it.note("program", "veto", None, "/v.o", "by root")
         it.routes({}, line(B), NAMES)
         causes = [each.cause for each in it.last() if each.kind == "route"]
@@ -76,6 +77,7 @@ class Histories(unittest.TestCase):
             causes,
             [
                 "external-LSA 203.0.113.0 of 2.2.2.2 withdrawn",
+                "router-LSA 2.2.2.2 of 2.2.2.2 came",
                 "router-LSA 2.2.2.2 of 2.2.2.2 came",
                 "veto: nothing -> /v.o (by root)",
             ],

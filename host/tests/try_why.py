@@ -17,6 +17,7 @@ from tests.network import (
     Network,
     Side,
     Try,
+    Waiting,
     is_full,
     is_said,
     line_of,
@@ -153,13 +154,17 @@ def of_lsas(given: Try, box: Box, bird: Bird) -> None:
     answers, commands = [], []
     for _ in range(5):
         began, before = time.monotonic(), resource.getrusage(resource.RUSAGE_CHILDREN)
+        waiting = Waiting(box.programs())
         box.says(f"why {many[5000]}")
-        answers.append(time.monotonic() - began)
+        answers.append(time.monotonic() - began - waiting.seconds())
         box.command("why", many[5000])
         after = resource.getrusage(resource.RUSAGE_CHILDREN)
         commands.append(after.ru_utime + after.ru_stime - before.ru_utime - before.ru_stime)
     took = min(answers) + min(commands)
-    said = f"{min(answers):.2f} s until the box has answered, {min(commands):.2f} s of processor for the command"
+    said = (
+        f"{min(answers):.2f} s until the box has answered, without what it waited for a processor; "
+        f"{min(commands):.2f} s of processor for the command"
+    )
     given.looks.look(f"`leafrunt why` takes {SECONDS:g} s with 10,000 destinations", took <= SECONDS, said)
     bird.externals = [PLAIN, BOTH, OWN]
     bird.configure()
