@@ -7,7 +7,7 @@ import time
 from collections.abc import Callable, Mapping
 from ipaddress import IPv4Address
 
-from leafrunt_host.configuration import matches
+from leafrunt_host.interface_names import matches
 from leafrunt_host.interfaces import KernelState
 from leafrunt_host.status import Known
 

@@ -241,7 +241,8 @@ def up(words: argparse.Namespace) -> Status:
 
     configuration = read_again(words.config)
     if not configuration.interfaces:
-        logging.getLogger("leafrunt.box").warning("none of the interfaces is there: the first one is waited for")
+        said = "none of the interfaces is there: the first one is waited for"
+        logging.getLogger("leafrunt.box").warning(said)
     while not configuration.interfaces:
         time.sleep(1.0)
         configuration = read_again(words.config)

@@ -23,6 +23,7 @@ from leafrunt_host.bfd_packets import BfdKey, KeyType
 from leafrunt_host.bfd_settings import AnyKey
 from leafrunt_host.counter_names import counter_names
 from leafrunt_host.destinations import MOST_EXTERNALS, Announcement
+from leafrunt_host.interface_names import INTERFACE_NAME, is_pattern, matches
 from leafrunt_host.isolation import Account, account_of
 from leafrunt_host.journal import LEVELS
 from leafrunt_host.kernel import KernelInterface
@@ -41,11 +42,9 @@ from leafrunt_host.tables import Mistake, Table, shown, toml_of
 LONGEST_FILE = 1 << 20
 MOST_INTERFACES = 63
 LEAST_MTU, MOST_MTU = 576, 65535
-LOOPBACK = "lo"
 ALONE = 32
 """The length of a prefix that has one address alone."""
 LONGEST_SECRET = 256
-INTERFACE_NAME = re.compile(r"(?!\.{1,2}$)[^\s/:%]{1,15}")
 KEY_NAME = re.compile(r"[A-Za-z0-9_-]{1,64}")
 HOOKS = ("count", "tag", "price", "veto")
 OBJECT_HEAD = b"BPFH\x01"
@@ -581,7 +580,7 @@ class _Reader:
     @staticmethod
     def _name(table: Table) -> str | None:
         """The name of an interface, or a pattern of names."""
-        allowed = "the name of an interface, or a pattern of names: at most 15 bytes, no space, / or :"
+        allowed = "an interface's name, or a pattern of names: at most 15 bytes, no space, / or :"
         name = table.text("name", allowed)
         if name is not None and not INTERFACE_NAME.fullmatch(name):
             table.note("name", shown(name), allowed)
@@ -730,20 +729,6 @@ def refusal_text(verdict: str) -> str:
         if read and read[1] in meanings:
             return f"{verdict}: {meanings[read[1]]}"
     return verdict
-
-
-def is_pattern(name: str | None) -> bool:
-    """Whether it stands for any number of interfaces."""
-    return name is not None and ("*" in name or "?" in name)
-
-
-def matches(name: str, interface: str) -> bool:
-    """Whether a name or pattern means that interface: no pattern means the loopback interface."""
-    if not is_pattern(name):
-        return name == interface
-    return interface != LOOPBACK and bool(
-        re.fullmatch(re.escape(name).replace(r"\*", ".*").replace(r"\?", "."), interface)
-    )
 
 
 def interface_title(at: int, items: dict[str, Any]) -> str:

@@ -17,7 +17,7 @@ from leafrunt_host.withheld import INSTANCE
 
 MIN_LS_INTERVAL = 5.0
 SECONDS_REPLACED = 10.0
-"""For so long `routerd` may take to originate its own anew: a flush has to be acknowledged first."""
+"""For so long `routerd` may take to originate its own anew: a flush is acknowledged first."""
 SECONDS_CALCULATED = 1.0
 """After that `table` has the routes again."""
 ORIGIN = slice(8, 12)
@@ -33,7 +33,7 @@ class OwnLsas:
         self._begun = begun
         self._sent: dict[Key, tuple[bytes, float]] = {}
         self._foreign = b""
-        """The instance that stands in its place, which `routerd` floods too before it flushes it."""
+        """The instance that stands in its place, which `routerd` floods before it flushes it."""
         self._doubtful_until = float("-inf")
 
     def is_in_doubt(self, now: float) -> bool:

@@ -2,9 +2,9 @@
 sent, and the LSAs that it was given a moment ago. It refuses an Update that would bring more.
 
 No link's LSAs keep those of another out. Where there are several links, one may fill 15 of 16 of
-the places that are free or its own, so one alone can bring a whole area. Of what is free for a link,
-each has a part for LSAs that `routerd` hasn't acknowledged yet: it discards those with a wrong
-checksum (RFC 2328, 13 (1)), which any number of may come. What it doesn't acknowledge within
+the places that are free or its own, so one alone can bring a whole area. Of what is free for a
+link, each has a part for LSAs that `routerd` hasn't acknowledged yet: it discards those with a
+wrong checksum (RFC 2328, 13 (1)), of which any number may come. What it doesn't acknowledge within
 seconds takes no place any more.
 """
 from __future__ import annotations

@@ -214,8 +214,8 @@ class Withheld:
         return False
 
     def _promises(self, key: Key) -> bool:
-        """Whether there is a place left for an LSA that is described. Of those that were before only
-        what hasn't come by another link needs one."""
+        """Whether there is a place left for an LSA that is described. Of those before, only what
+        hasn't come by another link needs one."""
         free = self._places.free(self._share, key[0] == LsType.EXTERNAL) - self._share.given
         if key not in self._promised and len(self._promised) >= free:
             self._promised = {each for each in self._promised if not self._places.has(each)}
@@ -327,7 +327,7 @@ class Withheld:
             yield f"{len(told) - MOST_TOLD} more LSAs are withheld, since routerd doesn't read them"
         if self._above:
             more = " or more" * (len(self._above) >= MOST_ABOVE)
-            brought = f"{self._share.filled} of the {len(self._places)} there came by this link first"
+            brought = f"{self._share.filled} of the {len(self._places)} there came by this link"
             yield f"{self._limit_said()} ({len(self._above)} LSAs{more} are withheld; {brought})"
         asked = [each for each, since in self._asked.items() if now - since >= LONG_ASKED]
         if asked and now - self._last_asked < LONG_ASKED:

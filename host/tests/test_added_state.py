@@ -1,5 +1,5 @@
-"""What a box keeps beside OSPF's own state: each row of the table in docs/use/HOST.md, "How it works",
-by somebody who fills it and goes away. (The kernel's table, the console's and BFD's are their own
+"""What a box keeps beside OSPF's own state: each row of the table in docs/use/HOST.md, "How it
+works", by somebody who fills it and goes away. (The kernel's table, the console's and BFD's are their own
 tests'.)"""
 import logging
 import unittest

@@ -35,8 +35,8 @@ names = ("AS", "FSIZE", "CORE")
 limits = [f"{each} {resource.getrlimit(getattr(resource, f'RLIMIT_{each}'))[1]}" for each in names]
 ids = [f"{os.getresuid()} {os.getresgid()} {os.getgroups()}"]
 with open(sys.argv[2]) as it:
-    print(*ids, *limits, it.read(), *(f"{each}={os.environ[each]}" for each in os.environ), sep="\\n",
-          file=sys.stderr, flush=True)
+    variables = [f"{each}={os.environ[each]}" for each in os.environ]
+    print(*ids, *limits, it.read(), *variables, sep="\\n", file=sys.stderr, flush=True)
 print(sys.stdin.read())
 """
 ATTEMPTS = """#!/usr/bin/python3 -IS

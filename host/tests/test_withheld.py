@@ -266,7 +266,7 @@ class Limits(unittest.TestCase):
         self.assertIn("more than 16384 LSAs", self.withheld.news[0])
         self.assertEqual(len(self.withheld.news), 1)
         (said,) = self.withheld.remarks(3)
-        self.assertIn("(5 LSAs are withheld; 522 of the 522 there came by this link first)", said)
+        self.assertIn("(5 LSAs are withheld; 522 of the 522 there came by this link)", said)
         self.assertEqual(len(self.withheld.described([each[:20] for each in lsas], 2)), most)
 
     def test_the_way_back(self) -> None:
@@ -318,7 +318,7 @@ class Limits(unittest.TestCase):
             self.withheld.begun(now)
             self.withheld.described([each[:20] for each in lsas], now)
             (said,) = self.withheld.remarks(now)
-            self.assertIn("(5 LSAs are withheld; 522 of the 522 there came by this link first)", said)
+            self.assertIn("(5 LSAs are withheld; 522 of the 522 there came by this link)", said)
         self.assertEqual(len(self.withheld.news), 1)
 
     def test_a_flood(self) -> None:

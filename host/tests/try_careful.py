@@ -92,8 +92,8 @@ class Shared:
         return self.network.start(self.by, words, log, stdout=subprocess.PIPE)
 
     def strays(self, source: str, seconds: float) -> tuple[int, int, str]:
-        """How many looks at the kernel's table there were meanwhile, at how many the next hop wasn't
-        the neighbor, and what was sent."""
+        """How many looks at the kernel's table there were meanwhile, at how many the next hop
+        wasn't the neighbor, and what was sent."""
         attack, looks, strays = self.again(source, seconds), 0, 0
         while attack.poll() is None:
             looks, strays = looks + 1, strays + (self.hop() != NEIGHBOR)
@@ -165,7 +165,8 @@ def full_of_nothing(given: Try, is_box: bool) -> None:
         took = {"with keys": it.comes(it.core, core), "without": it.comes(it.edge, edge)}
         measured = ", ".join(f"{link}: {took[link] or -1:.1f} s" for link in took)
         if is_box:
-            looks.look(f"{when} fifty new destinations come by each link", all(took.values()), measured)
+            what = f"{when} fifty new destinations come by each link"
+            looks.look(what, all(took.values()), measured)
         else:
             print(f"     BIRD, {when}: {measured}")
         if when == "meanwhile":
@@ -175,8 +176,8 @@ def full_of_nothing(given: Try, is_box: bool) -> None:
 
 def forged(given: Try) -> None:
     """Somebody on a link without keys sends the box's own router-LSA with the last sequence number,
-    0x7fffffff: the kernel keeps the box's own routes meanwhile. BIRD beside it. And destinations that
-    nobody has stay out of the kernel."""
+    0x7fffffff: the kernel keeps the box's own routes meanwhile. BIRD beside it. And destinations
+    that nobody has stay out of the kernel."""
     for is_box in (True, False):
         given.anew(lambda: own_lsa_forged(given, is_box))
     given.anew(lambda: martians(given))
@@ -187,7 +188,8 @@ def own_lsa_forged(given: Try, is_box: bool) -> None:
     looks.look(f"{who}: Full with both", it.start())
     looks.look("with routes", it.comes(it.core, 60) is not None)
     words = [sys.executable, str(HOST / "tests" / "attack.py"), "own", "224.0.0.5", "1.2", "1"]
-    attack = it.network.start(it.names[1], words, it.network.work / "attack", stdout=subprocess.PIPE)
+    log = it.network.work / "attack"
+    attack = it.network.start(it.names[1], words, log, stdout=subprocess.PIPE)
     count, without, began = 0, 0, time.monotonic()
     while time.monotonic() - began < 20:
         lines = output("ip", "-n", it.tried.namespace, "-4", "route", "show").splitlines()
@@ -271,7 +273,8 @@ def begun_anew(given: Try) -> None:
 def repeated(given: Try, kind: str, length: int, source: str, bfd: Bfd | None) -> None:
     looks, key = given.looks, MD5 if kind == "FRR" else SHA
     it = Shared(given, kind, length, key, bfd)
-    what = f"{kind} with {key.algorithm}{', BFD' * bool(bfd)} at a /{length}, repeated from {source}"
+    by = f"{key.algorithm}{', BFD' * bool(bfd)}"
+    what = f"{kind} with {by} at a /{length}, repeated from {source}"
     looks.look(f"{what}: Full, with a route, before", it.start())
     count, strays, sent = it.strays(source, 12)
     measured = f"{strays} of {count} looks, {sent}"

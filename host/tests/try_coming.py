@@ -8,8 +8,8 @@ from tests.network import COMES_UP, Bird, Box, End, Side, Try, is_full, is_said,
 
 def coming(given: Try) -> None:
     """A box starts with the one interface that is there; a tunnel that comes later, and others by a
-    pattern of names, are taken as they come, and the neighbor of before notices nothing. BIRD beside
-    it. Then it starts without any."""
+    pattern of names, are taken as they come, and the neighbor of before notices nothing. Then it
+    starts without any."""
     network, looks = given.network, given.looks
     own, near, far = (network.namespace(each) for each in ("own", "near", "far"))
     network.link(End(own, "eth1", "10.0.1.1/24"), End(near, "eth1", "10.0.1.2/24"))
@@ -22,12 +22,13 @@ def coming(given: Try) -> None:
     for each in (box, bird, other):
         each.start()
     looks.timed("one of two interfaces is there: Full", COMES_UP, lambda: is_full(box, "2.2.2.2"))
-    looks.look("`leafrunt status` says what it lacks", is_said(box, "tun9: the kernel doesn't have it"))
+    lacks = "tun9: the kernel doesn't have it"
+    looks.look("`leafrunt status` says what it lacks", is_said(box, lacks))
     network.link(End(own, "tun9", "10.0.9.1/24"), End(far, "tun9", "10.0.9.2/24"))
     looks.timed("a tunnel comes: Full", COMES_UP, lambda: is_full(box, "2.2.2.2", "3.3.3.3"))
     for at in (0, 1):
-        ends = End(own, f"wg{at}", f"10.0.{20 + at}.1/24"), End(far, f"wg{at}", f"10.0.{20 + at}.2/24")
-        network.link(*ends)
+        net = f"10.0.{20 + at}"
+        network.link(End(own, f"wg{at}", f"{net}.1/24"), End(far, f"wg{at}", f"{net}.2/24"))
 
     def interfaces() -> set[str]:
         full = (each for each in box.reported()["interfaces"] if each.get("neighbor"))

@@ -1,5 +1,5 @@
-"""What takes long, with the default timers, HelloInterval 10 and RouterDeadInterval 40: kills at random
-moments, and a soak in real time. See `try-network`."""
+"""What takes long, with the default timers, HelloInterval 10 and RouterDeadInterval 40: kills at
+random moments, and a soak in real time. See `try-network`."""
 from __future__ import annotations
 
 import contextlib
@@ -135,7 +135,7 @@ def stand_still(name: str) -> Act:
 
 
 def reload(kills: str = "") -> Act:
-    """The cost of a link changes; in the midst of that a process of that name is killed, any one."""
+    """The cost of a link changes; in the midst of that any process of that name is killed."""
 
     def act(it: Victim, source: random.Random) -> None:
         first, *others = it.box.sides
@@ -235,7 +235,7 @@ def nothing_left(it: Victim, looks: Looks) -> None:
 
 @dataclass
 class Cause:
-    """What was done in a soak, and when, in seconds of `time.time()`; whether it may cost packets."""
+    """What was done in a soak, when, in seconds of `time.time()`, and whether it may cost packets."""
 
     what: str
     began: float
@@ -253,7 +253,7 @@ class Routes:
     def __init__(self, network: Network, namespace: str) -> None:
         self._file = network.work / f"routes-{namespace}"
         with open(self._file, "w", encoding="utf-8") as it:
-            words = ["ip", "-4", "-ts", "monitor", "route"]
+            words = ["ip", "-4", "-ts", "monitor", "route", "nexthop"]
             network.start(namespace, words, network.work / "monitor", stdout=it.fileno())
 
     def changes(self) -> Iterator[tuple[float, str]]:
@@ -284,7 +284,7 @@ class Taken:
 
 
 def soak(given: Try) -> None:
-    """70 minutes in real time at the default timers, so that LSRefreshTime and MaxAge are crossed: a
+    """70 minutes in real time at the default timers, so LSRefreshTime and MaxAge are crossed: a
     ring of three boxes, BIRD and FRR, in which a link fails, a cost is reloaded and FRR is killed.
     No route changes without a cause, nothing grows, and each lost packet is told."""
     soaked(given, MINUTES_OF_SOAK)
@@ -306,7 +306,9 @@ def soaked(given: Try, minutes: float) -> None:
     _, sent, gaps = losses.counted()
     told_losses(looks, sent, [(began + at, count) for at, count in gaps], causes)
     for at, each in routes.items():
-        strange = [said for said in each.changes() if not any(it.is_of(said[0]) for it in causes)]
+        changes = list(each.changes())
+        looks.look(f"{it.IDS[at]}: its routes were followed", changes, f"{len(changes)} changes")
+        strange = [said for said in changes if not any(it.is_of(said[0]) for it in causes)]
         few = "; ".join(f"{moment - began:.0f} s: {line}" for moment, line in strange[:4])
         looks.look(f"{it.IDS[at]}: no route changed without a cause", not strange, few)
     for at, box in it.boxes.items():
@@ -363,7 +365,8 @@ def grown(looks: Looks, name: str, before: Taken, after: Taken) -> None:
         for each in before.memory
         if each in after.memory
     ]
-    more = [after.memory[each] - before.memory[each] for each in before.memory if each in after.memory]
-    files = [after.files[each] - before.files[each] for each in before.files if each in after.files]
+    both = before.memory.keys() & after.memory.keys()
+    more = [after.memory[each] - before.memory[each] for each in both]
+    files = [after.files[each] - before.files[each] for each in both]
     is_flat = bool(more) and max(more) <= MOST_GROWTH and max(files) <= 2
     looks.look(f"{name}: nothing grows", is_flat, "; ".join(said))
