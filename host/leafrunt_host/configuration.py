@@ -28,6 +28,7 @@ from leafrunt_host.isolation import Account, account_of
 from leafrunt_host.journal import LEVELS
 from leafrunt_host.kernel import KernelInterface
 from leafrunt_host.kernel_settings import KernelSettings, kernel_settings_of, look_at_vrf
+from leafrunt_host.meanings import hint
 from leafrunt_host.redistribution import (
     MARTIANS,
     NOT_ANNOUNCED,
@@ -50,27 +51,6 @@ HOOKS = ("count", "tag", "price", "veto")
 OBJECT_HEAD = b"BPFH\x01"
 ELF_HEAD = b"\x7fELF"
 ACCEPTED = re.compile(r"accepted bound (\d+)")
-REFUSALS = {
-    re.compile(r"object refusal (\d+)"): {
-        "1": "it is shorter than its header says",
-        "2": "it doesn't begin as an object does",
-        "3": "another version",
-        "4": "no hook",
-        "5": "its statements aren't in order",
-        "6": "a field that no object has, as one of big-endian code",
-        "7": "it is longer than its header says",
-    },
-    re.compile(r"code refusal (\d+)"): {
-        "1": "no whole slots",
-        "2": "an opcode that isn't known",
-        "3": "a register above 10",
-        "4": "a field that the instruction doesn't use, as of big-endian code",
-        "5": "it ends inside an instruction",
-        "6": "more than 4096 slots",
-    },
-    re.compile(r"refused slot \d+ (rule) "): {"rule": "`hooktool explain` says why"},
-}
-"""What numbers of refusals mean (docs/reference/FORMATS.md)."""
 ANNOUNCED = f"A.B.C.D/L whose bits after the first L are 0, not in {', '.join(NOT_ANNOUNCED)}"
 ROUTERD = "/usr/local/bin/routerd"
 SECONDS_TO_VERIFY = 60
@@ -724,11 +704,8 @@ class _Reader:
 
 def refusal_text(verdict: str) -> str:
     """A refusal of `routerd verify` with what its number means."""
-    for form, meanings in REFUSALS.items():
-        read = form.match(verdict)
-        if read and read[1] in meanings:
-            return f"{verdict}: {meanings[read[1]]}"
-    return verdict
+    meaning = hint("", verdict) if verdict.startswith(("object", "code", "refused slot")) else ""
+    return f"{verdict}: {meaning}" if meaning else verdict
 
 
 def interface_title(at: int, items: dict[str, Any]) -> str:

@@ -11,6 +11,7 @@ from types import ModuleType
 from typing import TextIO
 
 from leafrunt_host.client import REFUSED, Client
+from leafrunt_host.meanings import hint
 from leafrunt_host.statuses import Status
 from leafrunt_host.words import first_words, help_lines
 
@@ -67,6 +68,9 @@ def console(client: Client, lines: Iterable[str], output: TextIO) -> Status:
             continue
         answer = asked(client, line)
         print(*answer, sep="\n", file=output, flush=True)
+        if len(answer) == 1 and (meant := hint(line, answer[0])):
+            # (beside the answer: whoever reads standard output gets what `routerd` says alone)
+            print(f"({meant})", file=sys.stderr, flush=True)
         worst = worst or status_of(answer)
         if line == "down":
             print(*client.answer(), sep="\n", file=output, flush=True)

@@ -9,7 +9,6 @@ import time
 from collections.abc import Callable
 from ipaddress import IPv4Address, IPv4Network
 
-from leafrunt_host.announcements import OUT_OF_MEMORY
 from leafrunt_host.bfd import Neighbor as BfdNeighbor
 from leafrunt_host.bfd import Sessions
 from leafrunt_host.clock import Clock
@@ -17,6 +16,7 @@ from leafrunt_host.exchange import Side
 from leafrunt_host.forwarding import ByAddress, CannotKeep, Hop, KernelTable
 from leafrunt_host.holding import Holding
 from leafrunt_host.journal import where_it_failed
+from leafrunt_host.meanings import OUT_OF_MEMORY
 from leafrunt_host.own_lsas import SECONDS_REPLACED
 from leafrunt_host.packets import HELLO, Packet, PacketType
 from leafrunt_host.refusals import Refusals

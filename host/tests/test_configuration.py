@@ -530,7 +530,8 @@ MISTAKES = [
         (
             (
                 "program 1, object",
-                '"refused.o": refused slot 3 rule 7: `hooktool explain` says why',
+                '"refused.o": refused slot 3 rule 7: a load or store may lie outside of its region: `i & 63` for '
+                '''a cell, `& 255` for a counter; `hooktool explain` shows it''',
                 OBJECT,
             ),
         ),

@@ -48,7 +48,7 @@ class Typing(unittest.TestCase):
         ):
             given = iter(answers)
             client = mock.Mock(spec=Client, ask=lambda _line: next(given))
-            with self.subTest(answers), contextlib.redirect_stdout(io.StringIO()):
+            with self.subTest(answers), contextlib.redirect_stdout(io.StringIO()), contextlib.redirect_stderr(io.StringIO()):
                 self.assertEqual(run(client, ["x"] * len(answers)), status)
 
     def test_what_is_no_text(self) -> None:
