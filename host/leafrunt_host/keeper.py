@@ -218,6 +218,8 @@ class Keeper:
                     self._kernel.notice()
                 self._pace.woken(time.monotonic())
                 self._ending.wait(AFTER[0])
+                if self._kernel and time.monotonic() < min(self._pace.due, looked + EACH):
+                    continue  # (it rests: a storm wakes it more often than it may look)
             if self._ending.is_set():
                 break
             looked = time.monotonic()

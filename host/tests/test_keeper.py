@@ -351,6 +351,29 @@ class Keeps(Waits):
                 self.keeper._looked(now)
         self.assertEqual((ended, self.known.kept.error), ([], None))
 
+    def test_a_storm(self) -> None:
+        """It is woken at each change, and asks `routerd` no more often than it may look at the table:
+        each question costs both, and a table of thousands costs so much."""
+        looks = list[float]()
+
+        def table(_line: str) -> bytes:
+            looks.append(time.monotonic())
+            time.sleep(0.02)
+            return b"172.16.2.0/24 ext2 %d via 1\n" % len(looks)
+
+        self.router.ask_bytes = table  # type: ignore[method-assign]
+        asks = mock.Mock(side_effect=self.router.ask_list)
+        self.router.ask_list = asks  # type: ignore[method-assign]
+        with mock.patch.object(FakeNotices, "fileno", lambda _: self.waker.fileno()):
+            self.keeper.start()
+            began = time.monotonic()
+            while time.monotonic() - began < 2:
+                self.waker.wake()
+                time.sleep(0.005)
+            self.keeper.stop()
+        self.assertGreaterEqual(len(looks), 4)
+        self.assertLessEqual(asks.call_count, len(looks) + 2 / keeper.EACH + 2)
+
 
 class Hops(unittest.TestCase):
     def test_links_that_are_down(self) -> None:
