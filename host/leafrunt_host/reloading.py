@@ -205,6 +205,7 @@ class Reloader:
         self.room.give_back(self.room.claimed.difference(claims_of(new)))
         said += self._announced(old, new)
         said += ["counters: other names"] * (old.counters != new.counters)
+        said += [f"{each}: is awaited" for each in new.awaited if each not in old.awaited]
         if old.log_level != new.log_level:
             set_level(new.log_level)
             said.append(f"log_level: {new.log_level}")

@@ -94,6 +94,12 @@ class Running(Boxes):
         self.reloaded("destinations: 0 new or changed, 2 withdrawn")
         self.assertTrue(within(30, lambda: self.announced() == [wanted[0], wanted[2]]))
 
+    def test_an_interface_that_is_not_there(self) -> None:
+        self.up()
+        self.write('[[interface]]\nname = "tun9"\n')
+        self.reloaded("tun9: is awaited")
+        self.reloaded("nothing differs")
+
     def test_4096_destinations(self) -> None:
         self.up()
         many = (ANNOUNCE.format(f"11.{at >> 8}.{at & 255}.0/24", 1) for at in range(4096))
@@ -378,7 +384,7 @@ class Differing(unittest.TestCase):
         taken = {"announcements", "programs", "counters", "redistribution", "kernel", "interfaces"}
         taken |= {"log_level", "table"}
         anew = {"name", "path", "router_id", "routerd", "account"}
-        told = {"advice"}
+        told = {"advice", "awaited"}
         self.assertEqual(taken | anew | told, set(Configuration.__dataclass_fields__))
 
     def test_interfaces_that_come_and_go(self) -> None:
