@@ -5,6 +5,8 @@ from __future__ import annotations
 import os
 import re
 import signal
+import subprocess
+import sys
 import time
 from collections.abc import Callable
 from dataclasses import dataclass, field, replace
@@ -12,6 +14,7 @@ from pathlib import Path
 
 from tests.network import (
     COMES_UP,
+    HOST,
     Bird,
     Box,
     End,
@@ -116,6 +119,12 @@ def readdress(scene: Scene, before: str, after: str) -> None:
         run("ip", "-n", name, "addr", "del", f"{before.format(at)}", "dev", f"eth{at}")
 
 
+def rename(scene: Scene, value: str) -> None:
+    """The peer gets another Router ID."""
+    scene.peer.router_id = value
+    scene.peer.configure()
+
+
 def kind(scene: Scene, value: str) -> None:
     scene.peer.kind = value
     scene.peer.configure()
@@ -133,6 +142,7 @@ PLAIN = [
     OnTheWire("RouterDeadInterval 12", lambda it: it.sides(dead=12), "RouterDeadInterval 12 there and 8 here"),
     OnTheWire("a key at the peer alone", lambda it: it.sides(keys=(KEY,)), "authenticated, and no key is configured here"),
     OnTheWire("a broadcast interface at the peer", lambda it: kind(it, "broadcast"), "it elects a Designated Router", r"(?i)designated|broadcast|network type"),
+    OnTheWire("the box's own Router ID at the peer", lambda it: rename(it, "1.1.1.1"), "its Router ID 1.1.1.1 is this router's own", r"(?i)router.?id"),
     OnTheWire("the peer is passive", lambda it: it.sides(is_passive=True), r"no Hello for|last heard \d+ s ago", r"(?i)inactivity|dead timer|expired"),
     OnTheWire("an address of another subnet", lambda it: readdress(it, "10.0.{}.2/24", "10.101.{}.2/24"), "strange source address: 10.101.1.2", r"(?i)subnet|source|network mask|address"),
 ]
@@ -143,6 +153,7 @@ UNDO: dict[str, Callable[[Scene], None]] = {
     "RouterDeadInterval 12": lambda it: it.sides(dead=8),
     "a key at the peer alone": lambda it: it.sides(keys=()),
     "a broadcast interface at the peer": lambda it: kind(it, "pointopoint"),
+    "the box's own Router ID at the peer": lambda it: rename(it, "9.9.9.9"),
     "the peer is passive": lambda it: it.sides(is_passive=None),
     "an address of another subnet": lambda it: readdress(it, "10.101.{}.2/24", "10.0.{}.2/24"),
 }
@@ -235,6 +246,17 @@ def at_the_box(scene: Scene) -> None:
     ip("link", "set", "eth1", "up")()
     named(scene, "its address is removed", ip("addr", "del", "10.0.1.1/24", "dev", "eth1"), "its address 10.0.1.1 is gone")
     ip("addr", "add", "10.0.1.1/24", "dev", "eth1")()
+    def renamed(before: str, after: str) -> None:
+        for words in ((before, "down"), (before, "name", after), (after, "up")):
+            ip("link", "set", *words)()
+
+    gone = "the kernel has no interface of this name"
+    named(scene, "the interface is renamed", lambda: renamed("eth1", "other0"), gone)
+    renamed("other0", "eth1")
+    two = "this box wouldn't start now"
+    named(scene, "a second address", ip("addr", "add", "10.99.0.1/24", "dev", "eth1"), two, seconds=75)
+    ip("addr", "del", "10.99.0.1/24", "dev", "eth1")()
+    again(scene)
     forward = ("netns", "exec", own, "sysctl", "-qw", "net.ipv4.ip_forward={}")
     named(scene, "ip_forward is 0", lambda: run("ip", *forward[:-1], "net.ipv4.ip_forward=0"), "net.ipv4.ip_forward is 0")
     run("ip", *forward[:-1], "net.ipv4.ip_forward=1")
@@ -248,6 +270,22 @@ def at_the_box(scene: Scene) -> None:
     box.says("detach veto")
     files(scene)
     named(scene, "routerd is killed", lambda: os.kill(routerd_of(box), signal.SIGKILL), "killed by signal 9")
+
+
+def again(scene: Scene) -> None:
+    """A second instance, of the same name."""
+    box = scene.box
+    words = ("up", str(box.folder / f"{box.name}.toml"), "--run-directory", str(scene.given.network.work / "run"))
+    ran = subprocess.run(
+        ["ip", "netns", "exec", box.namespace, sys.executable, str(HOST / "leafrunt"), *words],
+        capture_output=True,
+        text=True,
+        timeout=60,
+        check=False,
+    )
+    said = " ".join(ran.stderr.split())
+    good = ran.returncode == 1 and "runs already" in said
+    scene.given.looks.look("a second instance: it is refused with the reason", good, said[-110:])
 
 
 def files(scene: Scene) -> None:
