@@ -134,7 +134,8 @@ class History:
         self._add(self._read())
         self._changed.clear()
         self._thread = threading.Thread(target=self._save_all, name="history", daemon=True)
-        self._thread.start()
+        if path is not None:
+            self._thread.start()
 
     def _read(self) -> list[Change]:
         """What an earlier run left; what is damaged is left out."""
@@ -213,7 +214,8 @@ class History:
         """Writes what came; a disk that stands still isn't waited for long."""
         self._ending.set()
         self._changed.set()
-        self._thread.join(SECONDS_TO_END)
+        if self._thread.is_alive():
+            self._thread.join(SECONDS_TO_END)
 
 
 def change_line(it: Change) -> str:
