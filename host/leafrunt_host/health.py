@@ -27,7 +27,8 @@ def complaints(status: Json) -> list[Complaint]:
 def of_box(status: Json) -> Iterator[Complaint]:
     routerd, veto = status["routerd"], status["veto"]
     worst = {routerd["unanswered"]} - {None}
-    if veto and veto["offered"] and not veto["let_in"] and status["kernel"]["kept"]:
+    table = status["table"] or {"routes": 0}
+    if veto and veto["offered"] and not veto["let_in"] and table["routes"]:
         worst.add("the program at veto keeps all routes out")
     for each in sorted(worst):
         yield Health.CRITICAL, each

@@ -291,7 +291,7 @@ def status_of(
     configuration = known.configuration
     kept = known.kept
     let_in = kept.table - kept.own
-    all_out = known.looked is not None and bool(offered) and let_in <= 0
+    all_out = kept.table > 0 and bool(offered) and let_in <= 0
     head = [SILENT.format(silence)] if silence else []
     head += [ALL_OUT.format(offered)] if all_out else []
     return {

@@ -131,7 +131,7 @@ class Rests(unittest.TestCase):
         it.configuration = replace(it.configuration, awaited=("ppp*",))
         self.assertIsNotNone(status_of(it)["at_rest_since"])
         self.assertIsNone(status_of(it, silence="routerd hasn't answered")["at_rest_since"])
-        it.looked, it.kept = time.monotonic(), Kept(table=3, own=3)
+        it.kept = Kept(table=3, own=3)
         status = status_of(it, offered=8)
         self.assertIsNone(status["at_rest_since"])
         lines = status_lines(status)
@@ -192,7 +192,8 @@ class Statuses(unittest.TestCase):
         silent = health(known(neighbors=full), silence="routerd hasn't answered `table` for 9 s")
         self.assertEqual(silent, (2, ["LEAFRUNT CRITICAL: box one: routerd hasn't answered `table` for 9 s", "CRITICAL: routerd hasn't answered `table` for 9 s"]))
         it = known(neighbors=full)
-        it.looked = time.monotonic()
+        self.assertEqual(health(it, offered=3)[0], 0)
+        it.kept = Kept(table=1, own=1)
         self.assertEqual(health(it, offered=3)[1][1:], ["CRITICAL: the program at veto keeps all routes out"])
 
     def test_a_state_that_is_new(self) -> None:
