@@ -46,6 +46,7 @@ from leafrunt_host.status import Known
 from leafrunt_host.statuses import Status, Stopped
 
 log = logging.getLogger("leafrunt.reload")
+SAME = "nothing differs"
 NEEDS_START = "needs a new start: `leafrunt down`, then `leafrunt up`"
 KEEP = "`leafrunt reload --keep` keeps it"
 NOT_CONFIRMED = (
@@ -113,7 +114,14 @@ class Reloader:
             self._one_at_a_time.release()
         for each in said:
             log.info("%s", each)
+        self._remember(said)
         return said
+
+    def _remember(self, said: list[str]) -> None:
+        """Among what changed, if something did."""
+        if said != [SAME]:
+            more = f" and {len(said) - 1} more" if len(said) > 1 else ""
+            self.known.history.note("box", "reload", None, f"{said[0]}{more}")
 
     def dry_run(self) -> list[str]:
         """What a reload would do now, a line for each thing; nothing is changed. `Stopped` where one
@@ -126,7 +134,7 @@ class Reloader:
         before = self.room.claimed
         self.room.claim(claims_of(new))
         self.room.give_back(self.room.claimed - before)
-        return list(would_change(old, new, self.known.by_hand)) or ["nothing differs"]
+        return list(would_change(old, new, self.known.by_hand)) or [SAME]
 
     def reload_until_confirmed(self, seconds: float) -> list[str]:
         """Reloads, and takes that back after so long unless `keep` comes before (BIRD: `configure
@@ -160,8 +168,10 @@ class Reloader:
             if before is None:
                 return
             try:
-                for each in self._taken_over(before):
+                taken = self._taken_over(before)
+                for each in taken:
                     log.info("%s", each)
+                self._remember(taken)
             except (CannotOpen, CannotKeep, RouterGone, Stopped) as why:
                 said = f"nobody confirmed the reload, and it can't be taken back: {why}"
             self.known.unconfirmed = None
@@ -210,7 +220,7 @@ class Reloader:
             set_level(new.log_level)
             said.append(f"log_level: {new.log_level}")
         said += [] if anew else self._programs(old, new)
-        return anew + said or ["nothing differs"]
+        return anew + said or [SAME]
 
     def _handed_over(self, old: Configuration, new: Configuration) -> list[str]:
         """Another `routerd` takes over; what of the rest it has read with that."""

@@ -427,7 +427,12 @@ class Fakes:
             if not each.passive
         }
         self.known = SimpleNamespace(
-            configuration=old, links=links, by_hand=frozenset(), programs={}, sessions=None
+            configuration=old,
+            links=links,
+            by_hand=frozenset(),
+            programs={},
+            sessions=None,
+            history=SimpleNamespace(note=lambda *said: self.noted.append(said)),
         )
         self.parts = SimpleNamespace(
             bridge=self.bridge,
@@ -436,6 +441,7 @@ class Fakes:
             ports=[(7001, 7002), (7003, 7004)],
             link_of=lambda interface: f"link {interface.number}",
         )
+        self.noted: list[tuple[object, ...]] = []
         self.kernel: KernelTable | None = None
         self.answer = "attached veto bound 7"
         self.reloader = Reloader(
@@ -715,6 +721,7 @@ class Taking(unittest.TestCase):
             self.assertEqual(it.known.unconfirmed, said[-1])
             self.assertRaisesRegex(Stopped, "waits to be confirmed", it.reloader.reload)
             self.assertEqual(it.reloader.keep(), ["the reload is confirmed"])
+            self.assertEqual(it.noted, [("box", "reload", None, "log_level: debug")])
             self.assertIsNone(it.known.unconfirmed)
             self.assertEqual(it.known.configuration.log_level, "debug")
             it.new = old
