@@ -4,6 +4,7 @@ from __future__ import annotations
 
 import json
 import logging
+import socket
 import threading
 import time
 from collections import deque
@@ -14,7 +15,8 @@ from typing import NamedTuple
 
 from leafrunt_host.clock import moment_text
 from leafrunt_host.kernel import Json
-from leafrunt_host.lsas import MAX_AGE, LsType, header_of
+from leafrunt_host.lsas import MAX_AGE, LsType
+from leafrunt_host.packets import LSA_HEADER_LENGTH
 from leafrunt_host.table_changes import RouteChange, route_changes
 from leafrunt_host.written import replace_file
 
@@ -28,6 +30,7 @@ SECONDS_BEFORE = 10.0
 """What came so long before a change may be its cause."""
 MOST_CAUSES = 20_000
 KINDS = ("route", "neighbor", "program", "box")
+TITLES = {int(each): each.title for each in LsType}
 
 
 class Change(NamedTuple):
@@ -88,8 +91,9 @@ class Causes:
 
     def of(self, prefix: str, of_all: str) -> str:
         """What came just before a change of this destination."""
-        net = IPv4Network(prefix)
-        key = int(net.network_address), int(net.netmask)
+        address, _, length = prefix.partition("/")
+        mask = 0xFFFF_FFFF << (32 - int(length)) & 0xFFFF_FFFF
+        key = int.from_bytes(socket.inet_aton(address), "big"), mask
         at, data = self._by_prefix.get(key, (float("-inf"), b""))
         return lsa_text(data) if time.monotonic() - at <= SECONDS_BEFORE else of_all
 
@@ -101,11 +105,11 @@ def is_of_area(change: RouteChange) -> bool:
 
 def lsa_text(data: bytes) -> str:
     """An LSA that came, in words."""
-    header = header_of(data)
-    if header is None:
+    if len(data) < LSA_HEADER_LENGTH or data[3] not in TITLES:
         return "an LSA"
-    how = "withdrawn" if header.age >= MAX_AGE else "came"
-    return f"{LsType(header.key.type).title}-LSA {header.key.id} of {header.key.router} {how}"
+    how = "withdrawn" if int.from_bytes(data[:2], "big") >= MAX_AGE else "came"
+    identity, router = socket.inet_ntoa(data[4:8]), socket.inet_ntoa(data[8:12])
+    return f"{TITLES[data[3]]}-LSA {identity} of {router} {how}"
 
 
 def named(line: str | None, names: Mapping[int, str]) -> str | None:
