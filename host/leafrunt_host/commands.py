@@ -52,6 +52,7 @@ EXAMPLES = {
     "reload": "leafrunt reload --dry-run\n  leafrunt reload --confirm 5m && ping -c 3 10.0.1.2 && leafrunt reload --keep\n  leafrunt reload\n  systemctl reload leafrunt@one",
     "down": "leafrunt down --box one",
     "clear": "leafrunt clear --box one",
+    "demo": "leafrunt demo",
 }
 TITLES = {
     "up": "start a box by its configuration, in the foreground; SIGTERM, SIGINT and `down` end it in order",
@@ -72,7 +73,8 @@ TITLES = {
     "check": "say what is wrong with a configuration, and start nothing",
     "reload": "take a changed configuration over in a box that runs; where it is wrong, nothing changes",
     "down": "end a box in order, and wait until it has ended",
-    "clear": "take the routes away that a box left in the kernel which was killed",
+    "clear": "remove the routes that a killed box left in the kernel",
+    "demo": "show two routers on this machine, a program that one of them runs, and one that it refuses",
 }
 
 
@@ -133,6 +135,8 @@ def interval(text: str) -> float:
 
 def with_folders(one: argparse.ArgumentParser, name: str) -> None:
     """Where a box keeps its files, and which box is meant."""
+    if name == "demo":
+        return
     if name != "check":
         about = f"where running boxes have their sockets (default {RUN})"
         one.add_argument("--run-directory", type=Path, default=RUN, metavar="DIR", help=about)
@@ -381,7 +385,18 @@ def clear(words: argparse.Namespace) -> Status:
     return say(remains.clear(Room(name, run / name, STATE / name)))
 
 
+def demo(_words: argparse.Namespace) -> Status:
+    """Becomes the demo: that of the package, or of the clone."""
+    from leafrunt_host.version import HOST
+
+    places = [it for it in (HOST / "demo", HOST.parent / "demo") if it.is_file()]
+    if not places:
+        raise Stopped("the demo isn't there: it is of a clone, and of the package")
+    os.execv(sys.executable, [sys.executable, str(places[0])])
+
+
 COMMANDS = {
+    "demo": demo,
     "up": up,
     "console": talk,
     **dict.fromkeys(LISTS, list_what_is_there),
