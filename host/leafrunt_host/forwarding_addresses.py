@@ -1,5 +1,6 @@
-"""The next hops of external destinations whose forwarding address lies in a network of this router's
-own: `table` has them `via 0`, and packets to them go to that address itself (RFC 2328, 11.1, 16.4).
+"""The next hops of external destinations whose forwarding address lies in a network of this
+router's own: `table` has them `via 0`, and packets to them go to that address itself (RFC 2328,
+11.1, 16.4).
 """
 from __future__ import annotations
 

@@ -333,7 +333,8 @@ class Rehearsals(unittest.TestCase):
             it.originate()
         given = self.got(1) + self.got(2)
         last = rehearsal.OLDEST.to_bytes(2, "big")
-        self.assertEqual({each for each in given if each[:2] == last}, {last + gone[2:], last + own[2:]})
+        wanted = {last + gone[2:], last + own[2:]}
+        self.assertEqual({each for each in given if each[:2] == last}, wanted)
         self.lacks(1, flushed + self.other[2:])
         it.catch_up()
         self.assertEqual(self.got(1), [])

@@ -1,5 +1,5 @@
-"""LSAs that wait, in the bridge or by being dropped: own ones that come back at MaxAge too early, the
-own router-LSA until the kernel has its routes, and router-LSAs within MinLSArrival."""
+"""LSAs that wait in the bridge: own ones that come back at MaxAge too early, the own router-LSA
+until the kernel has its routes, and router-LSAs within MinLSArrival."""
 from __future__ import annotations
 
 import logging

@@ -111,8 +111,8 @@ class Owing:
 
 
 def owed(given: Try) -> None:
-    """A reload right after a box has destinations, up to 3,000, that a neighbor behind a lossy link hasn't
-    acknowledged; and while nothing passes to a neighbor, with destinations that come and go."""
+    """A reload right after a box has destinations, up to 3,000, that a neighbor behind a lossy link
+    hasn't acknowledged; and while nothing passes to it, with destinations that come and go."""
     for scene in SCENES:
         given.anew(lambda: lossy(given, scene))
     scene = Scene("nothing passes meanwhile", 10, 40, 0, 5, 4 * RETRANSMITS, (SHA,))
