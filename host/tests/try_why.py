@@ -17,7 +17,6 @@ from tests.network import (
     Network,
     Side,
     Try,
-    Waiting,
     is_full,
     is_said,
     line_of,
@@ -28,8 +27,13 @@ from tests.network import (
 
 PLAIN, LONG, BOTH = "203.0.113.0/24", "198.51.101.128/25", "192.168.3.0/24"
 OWN, ENDLESS, GONE = "198.51.100.0/24", "203.0.118.0/24", "203.0.119.0/24"
-INFINITE = f"{ENDLESS} unreachable {{ ospf_metric2 = 16777215; }}; route {GONE}"
-"""A destination that is announced with LSInfinity, in BIRD's words, and after it another one."""
+FORWARDED = "203.0.120.0/24"
+INFINITE = (
+    f"{ENDLESS} unreachable {{ ospf_metric2 = 16777215; }}; "
+    f"route {FORWARDED} via 10.0.2.3; route {GONE}"
+)
+"""A destination that is announced with LSInfinity, in BIRD's words, and after it one with a forwarding
+address and another one."""
 VETO = "hook veto\nrank 0\nr2 = *u32 r1 8\nr0 = 0\nif r2 <= 24 goto END\nr0 = 1\nEND:\nexit\nstate END rank 0\nwith r0 number 0 1 0 0\n"
 """Keeps prefixes longer than 24 out."""
 COUNTING = "hook veto\nrank 0\nr1 = 7\ncall 2\nr0 = 0\nexit\n"
@@ -97,6 +101,7 @@ def there(given: Try, box: Box) -> None:
     asked(given, box, "its own network", "192.168.1.0/24", "on purpose: a network of this box's own")
     asked(given, box, "nobody announces it", "203.0.112.0/24", "no LSA of the", "packets are dropped")
     asked(given, box, "an address of nobody", "203.0.112.1", "no LSA of the")
+    asked(given, box, "a forwarding address", FORWARDED, "forwarding address 10.0.2.3: the best", "via 10.0.1.2")
     asked(given, box, "LSInfinity", ENDLESS, "its metric is LSInfinity", "not in its table")
 
 
@@ -140,6 +145,12 @@ def of_the_kernel(given: Try, box: Box) -> None:
     run("ip", "-n", own, "route", "del", "203.0.0.0/16")
 
 
+def processor_seconds(box: Box) -> float:
+    """What its programs have had of a processor (proc(5), the file `schedstat`)."""
+    files = (file for each in box.programs() for file in Path("/proc", each).glob("task/*/schedstat"))
+    return sum(int(each.read_text().split()[0]) for each in files) / 1e9
+
+
 def of_lsas(given: Try, box: Box, bird: Bird) -> None:
     bird.externals.remove(LONG)
     bird.configure()
@@ -151,21 +162,23 @@ def of_lsas(given: Try, box: Box, bird: Bird) -> None:
     last = many[-1]
     given.looks.timed("10,000 more destinations", 120, lambda: last in box.kernel_routes())
     time.sleep(2)
-    answers, commands = [], []
+    answers, ran, commands = [], [], []
     for _ in range(5):
         began, before = time.monotonic(), resource.getrusage(resource.RUSAGE_CHILDREN)
-        waiting = Waiting(box.programs())
+        worked = processor_seconds(box)
         box.says(f"why {many[5000]}")
-        answers.append(time.monotonic() - began - waiting.seconds())
+        answers.append(time.monotonic() - began)
+        ran.append(processor_seconds(box) - worked)
         box.command("why", many[5000])
         after = resource.getrusage(resource.RUSAGE_CHILDREN)
         commands.append(after.ru_utime + after.ru_stime - before.ru_utime - before.ru_stime)
-    took = min(answers) + min(commands)
+    took = min(ran) + min(commands)
     said = (
-        f"{min(answers):.2f} s until the box has answered, without what it waited for a processor; "
-        f"{min(commands):.2f} s of processor for the command"
+        f"{min(ran):.2f} s of the box, which answered after {min(answers):.2f} s at best, and "
+        f"{min(commands):.2f} s of the command"
     )
-    given.looks.look(f"`leafrunt why` takes {SECONDS:g} s with 10,000 destinations", took <= SECONDS, said)
+    what = f"`leafrunt why` takes {SECONDS:g} s of processor with 10,000 destinations"
+    given.looks.look(what, took <= SECONDS, said)
     bird.externals = [PLAIN, BOTH, OWN]
     bird.configure()
     within(60, lambda: last not in box.kernel_routes())
