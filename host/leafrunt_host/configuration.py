@@ -374,7 +374,7 @@ class _Reader:
         try:
             key = Key(number, algorithm, secret, lifetime)
         except ValueError as error:
-            table.note("", str(error), "a key as docs/use/HOST.md describes it")
+            table.note("", str(error), "a key as docs/use/CONFIGURATION.md describes it")
             return None
         advice = key.advice()
         if advice:

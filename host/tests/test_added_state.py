@@ -1,5 +1,4 @@
-"""What a box keeps beside OSPF's own state: each row of the table in docs/use/HOST.md, "How it
-works", by somebody who fills it and goes away. (The kernel's table, the console's and BFD's are their own
+"""What a box keeps beside OSPF's own state: each row of the table in docs/use/INTERNALS.md, by somebody who fills it and goes away. (The kernel's table, the console's and BFD's are their own
 tests'.)"""
 import logging
 import unittest
@@ -20,7 +19,7 @@ from tests.test_bridge import KEY, THERE, link, own_hello
 from tests.test_topology import EXTERNAL, router_lsa
 from tests.test_withheld import UNREAD, description, external, update
 
-HOST = Path(__file__).parents[2] / "docs" / "use" / "HOST.md"
+PAGE = Path(__file__).parents[2] / "docs" / "use" / "INTERNALS.md"
 TWO, ATTACKER = IPv4Address("2.2.2.2"), IPv4Address("10.0.1.66")
 STUB = (3, "10.0.1.0", "255.255.255.0", 10)
 SPOILED = EXTERNAL[:-1] + bytes([EXTERNAL[-1] ^ 1])
@@ -127,7 +126,7 @@ class Rows(unittest.TestCase):
 
     def test_the_table_has_each(self) -> None:
         """Each row names its test here, and each test has a row."""
-        text = HOST.read_text(encoding="utf-8").partition("### What a box adds to OSPF's state")[2]
+        text = PAGE.read_text(encoding="utf-8").partition("## What a box adds to OSPF's state")[2]
         rows = [line for line in text.partition("\n## ")[0].splitlines() if "`test_" in line]
         named = {line.rpartition("`test_")[2].partition("`")[0] for line in rows}
         tests = {each.removeprefix("test_") for each in dir(self) if each.startswith("test_")}

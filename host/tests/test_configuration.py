@@ -940,8 +940,8 @@ class Reading(Files):
             self.assertEqual(matches(name, interface), is_meant, (name, interface))
 
     def test_the_documents_have_each_key(self) -> None:
-        """docs/use/HOST.md's table of keys against the keys that are read."""
-        document = (Path(__file__).parents[2] / "docs" / "use" / "HOST.md").read_text(encoding="utf-8")
+        """docs/use/CONFIGURATION.md's table of keys against the keys that are read."""
+        document = (Path(__file__).parents[2] / "docs" / "use" / "CONFIGURATION.md").read_text(encoding="utf-8")
         for (
             each
         ) in f"{TOP_KEYS}, keys, {INTERFACE_KEYS}, prefix, metric, type, tag, object, {KEY_FIELDS}".split(
