@@ -30,7 +30,7 @@ LEVELS = ("error", "warning", "info", "debug")
 FORMATS = ("openmetrics", "prometheus")
 ABOUT = """A box that routes: `routerd`, an OSPF router, on this host, among BIRD, FRR and others.
 
-docs/use/HOST.md tells how to set up a network with it. Statuses: 0 done; 1 refused; 2 wrong words;
+docs/use/HOST.md tells how to set up a network with it. Statuses: 0 done; 1 refused; 2 invalid arguments;
 3 a file, a socket or a program failed; 4 out of memory."""
 EXAMPLES = {
     "up": "leafrunt up /etc/leafrunt/one.toml\n  leafrunt up --log-level debug /etc/leafrunt/one.toml",
@@ -159,7 +159,7 @@ def with_own_words(one: argparse.ArgumentParser, name: str) -> None:
             "-c", dest="lines", action="append", default=[], metavar="LINE", help=about
         )
     if name == "up":
-        about = "the least that the log has (default: log_level of CONFIG, or info)"
+        about = "the minimum level to log (default: log_level of CONFIG, or info)"
         one.add_argument("--log-level", choices=LEVELS, help=about)
     if name in LISTS:
         about = f"for a program: one JSON object, by the schema schemas/{name}.json"

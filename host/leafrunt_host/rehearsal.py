@@ -102,6 +102,7 @@ class Rehearsal:
         """LSAs that it has sent and no proxy acknowledges, by its interfaces."""
         self._hellos: dict[int, bytes] = {}
         self._router_lsa = b""
+        self._caught_up_at = time.monotonic()
         self._last: dict[int, list[bytes]] = {}
         """What it was given when it caught up last, by its interfaces."""
         self._waiting = selectors.DefaultSelector()
@@ -130,17 +131,12 @@ class Rehearsal:
 
     def find(self, prefixes: Callable[[], set[str]]) -> None:
         """Until it has routes to all destinations that the running one has, which may change."""
-        caught_up, missing = time.monotonic(), set[str]()
+        missing = set[str]()
 
         def has_all() -> bool:
-            nonlocal caught_up, missing
+            nonlocal missing
             missing = prefixes() - prefixes_of(self._ask("table"))
-            if not missing:
-                return True
-            if time.monotonic() - caught_up >= CAUGHT_UP_EACH:
-                self.catch_up()
-                caught_up = time.monotonic()
-            return False
+            return not missing or self._caught_up_in_vain()
 
         if not self._until(has_all, SECONDS_TO_FIND):
             first = ", ".join(sorted(missing)[:MOST_NAMED])
@@ -150,7 +146,7 @@ class Rehearsal:
 
     def owe(self) -> None:
         """Until it owes each neighbor what that hasn't acknowledged."""
-        if not self._until(lambda: not self.unowed(), SECONDS_TO_OWE):
+        if not self._until(lambda: not self.unowed() or self._caught_up_in_vain(), SECONDS_TO_OWE):
             raise Stopped(f"a neighbor hasn't acknowledged {len(self.unowed())} LSAs: try again")
 
     def unowed(self) -> list[Key]:
@@ -163,9 +159,16 @@ class Rehearsal:
             if key[-4:] != self._own.packed and self._given_at.get(key, number) == number
         ]
 
+    def _caught_up_in_vain(self) -> bool:
+        """False, after it was given what has changed since the last time, if that is due."""
+        if time.monotonic() - self._caught_up_at >= CAUGHT_UP_EACH:
+            self.catch_up()
+        return False
+
     def catch_up(self) -> None:
         """Gives it what has changed since, or wasn't acknowledged then; what is gone, it flushes.
         Nothing of this is acknowledged: it sends it to all other neighbors, until they have it."""
+        self._caught_up_at = time.monotonic()
         if not self._proxies:
             return
         owed, before = self._owed_by_neighbors(), self._given

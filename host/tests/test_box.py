@@ -397,7 +397,7 @@ class Consoles(Boxes):
         self.assertEqual(self.leafrunt("database")[0], 0)
         self.assertEqual(
             self.leafrunt("database", "1.2.3.4"),
-            (1, "", "leafrunt: no LSA has the Link State ID 1.2.3.4\n"),
+            (1, "", "leafrunt: no LSA has the Link State ID 1.2.3.4 (A.B.C.D/L finds those of a destination)\n"),
         )
         self.assertTrue(self.leafrunt("map")[1].endswith("}\n"))
         self.assertEqual(self.leafrunt("map", "--to", "1.2.3.4/8")[0], 2)

@@ -340,6 +340,14 @@ class Rehearsals(unittest.TestCase):
         self.assertEqual(self.got(1), [])
         self.assertIn(flushed + self.other[2:], self.got(2))
 
+    def test_what_comes_while_it_is_waited(self) -> None:
+        """It is given that too, and owes it: else nothing would come to an end while LSAs come."""
+        it, late = self.begin(1, 2), external("100.0.1.0/24", str(HIGH))
+        self.lacks(1, late)
+        with mock.patch.object(rehearsal, "CAUGHT_UP_EACH", 0.05):
+            it.owe()
+        self.assertEqual((self.got(1), [each[2:] for each in self.got(2)]), ([], [late[2:]]))
+
     def test_what_both_neighbors_lack(self) -> None:
         """It is waited for: the one that is given it isn't owed it."""
         late = external("100.0.1.0/24", "4.4.4.4")
