@@ -118,7 +118,8 @@ def named(line: str | None, names: Mapping[int, str]) -> str | None:
         return None
     said, via, numbers = line.partition(" via ")
     if numbers == "0":
-        return f"{said}, this router's own network"
+        where = "" if said.startswith("intra ") else "by a forwarding address in "
+        return f"{said}, {where}this router's own network"
     hops = (names.get(int(each), each) if each.isdigit() else each for each in numbers.split(","))
     return f"{said} via {','.join(hops)}" if via else said
 

@@ -3,6 +3,7 @@ says: in a thread of its own, which is woken when something happens."""
 from __future__ import annotations
 
 import logging
+import re
 import select
 import threading
 import time
@@ -45,7 +46,7 @@ SECONDS_ABSENT = 0.1
 """A route leaves the kernel once `table` has lacked it for so long. `routerd` takes an event first,
 then asks its programs and calculates what comes of it: between these `table` lacks every route
 that the event touched, some 10 ms long with 10,000 of them."""
-OWN_NETWORK = b" via 0\n"
+OWN_NETWORK = re.compile(rb" intra \d+ via 0\n")
 """How a line of `table` ends that is of a network of the router itself."""
 TWO_WAY = ("ExStart", "Exchange", "Loading", "Full")
 """The states of a neighbor that hears this router (RFC 2328, 10.1): on a point-to-point link none
@@ -355,7 +356,7 @@ class Keeper:
         is_changed = table != self._table
         if is_changed:
             self._table, self._lines = table, table.splitlines()
-            self._own_networks = table.count(OWN_NETWORK)
+            self._own_networks = len(OWN_NETWORK.findall(table))
         hops, own = self._hops(), self._own_destinations()
         outcome = kernel.keep(self._lines, hops, own, self._patience(), self._by_address)
         self._is_kept.set()

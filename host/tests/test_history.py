@@ -19,6 +19,7 @@ from leafrunt_host.history import (
     change_line,
     change_read,
     moment_of,
+    named,
 )
 from leafrunt_host.observing import Adjacencies, Observer
 from tests.test_observing import PACKET, THERE, hello_of
@@ -50,6 +51,8 @@ class Histories(unittest.TestCase):
         it.routes(line(A, b"ext2 30 via 1,2"), line(B, b"intra 10 via 0"), NAMES)
         said = [each[2:5] for each in it.last()]
         own = "intra 10, this router's own network"
+        by_address = "ext2 20, by a forwarding address in this router's own network"
+        self.assertEqual(named("ext2 20 via 0", {}), by_address)
         self.assertEqual(
             said,
             [

@@ -351,6 +351,12 @@ class Keeps(Waits):
                 self.keeper._looked(now)
         self.assertEqual((ended, self.known.kept.error), ([], None))
 
+    def test_own_networks(self) -> None:
+        """A destination by a forwarding address in one isn't one of them."""
+        self.router.table = [b"10.0.1.0/24 intra 10 via 0", b"14.0.0.0/24 ext2 20 via 0"]
+        self.keeper._look(time.monotonic())
+        self.assertEqual((self.known.kept.table, self.known.kept.own), (2, 1))
+
     def test_a_storm(self) -> None:
         """It is woken at each change, and asks `routerd` no more often than it may look at the table:
         each question costs both, and a table of thousands costs so much."""
