@@ -76,6 +76,16 @@ class Attempt:
         is_whole = function is not None and not function.relocated
         return function.code if function is not None and is_whole else None
 
+    def keeps_context(self, outcome: Outcome) -> bool:
+        """Reports whether a program is refused where it loads its context from the stack."""
+        refusal = outcome.verdict.refusal if outcome.verdict else None
+        code = self.code_of(outcome.name)
+        try:
+            return refusal is not None and code is not None and refusal[1] == EMPTY \
+                and Program(code, outcome.hook).keeps_context(refusal[0])
+        except Cannot:
+            return False
+
     def guarded(self, before: Outcome) -> Outcome:
         """Returns what comes of a refused program with guards, and with its turns counted."""
         code = self.code_of(before.name)
@@ -212,6 +222,7 @@ class Builder:
         """Returns what comes of a function in the way that takes it furthest."""
         may_help = outcome.why or outcome.verdict and outcome.verdict.refusal
         if self.settings.is_plain or not may_help:
+            outcome.keeps_context = attempt.keeps_context(outcome)
             return outcome
         best = outcome if outcome.why else attempt.guarded(outcome)
         if best.is_accepted:

@@ -15,7 +15,7 @@ HINTS = {
        "use cells for others",
     7: "write KEEP(i) & 63 for a cell, & 255 for a counter: clang takes a mask away that it finds "
        "needless",
-    8: "a cell or counter is a word of 8 bytes: let a struct in cells have 1, 2, 4, .. words",
+    8: "a cell or counter is a word of 8 bytes: read it as u64",
     10: "write KEEP(k) & 255 for a counter, KEEP(n) & 0xffffff for an amount",
     12: "give the loop an end that the code names, as i < n && i < 64, or write DOWN(i, n) or "
         "EACH(i, n) of leafrunt.h with an n that has one, as n & 63",
