@@ -1,13 +1,21 @@
 /* Programs for Leafrunt's hooks, in C. README.md beside this file says how they are compiled and loaded,
  * and which C is accepted. The first function of a file is the program: nothing may come before it but
  * `static inline` functions, which clang puts into it. */
+#ifndef LEAFRUNT_H
+#define LEAFRUNT_H
 typedef unsigned char u8;
 typedef unsigned short u16;
 typedef unsigned int u32;
 typedef unsigned long long u64;
 
-/* In front of a function: it is a program for this hook, as SEC("veto"). hooktool build makes an object of each. */
+/* In front of a function: it is a program for this hook, as SEC("veto"). hookcc makes an object of each. */
 #define SEC(hook) __attribute__((section(hook), used))
+
+/* The same with the hook's context, so that another one doesn't compile: SEC_VETO(f, r) { return r->cost > 9; } */
+#define SEC_COUNT(name, it) SEC("count") u64 name(const struct datagram *it)
+#define SEC_TAG(name, it) SEC("tag") u64 name(const struct destination *it)
+#define SEC_PRICE(name, it) SEC("price") u64 name(const struct destination *it)
+#define SEC_VETO(name, it) SEC("veto") u64 name(const struct route *it)
 
 /* ---- the contexts (docs/reference/FORMATS.md, "Contexts"): what the program is asked about, for reading only */
 
@@ -116,3 +124,5 @@ static inline void keep(u64 counter, u64 number)
 {
 	counter_add(KEEP(counter) & 255, (number - kept(counter)) & 0xffffff);
 }
+
+#endif

@@ -14,6 +14,7 @@ from types import MappingProxyType
 from typing import NamedTuple
 
 from leafrunt_host.destinations import MOST_EXTERNALS, Announcement, Owner
+from leafrunt_host.meanings import CLASHES, MEANINGS, NO_PLACE
 from leafrunt_host.observing import Limiter
 
 log = logging.getLogger("leafrunt.announcements")
@@ -34,22 +35,6 @@ MOST_GIVEN = 16_384
 """How many `routerd` is given, those included that its program at `price` withholds."""
 MOST_TOLD = 4
 """How many destinations that aren't announced are named."""
-CLASHES = "refused 3"
-OUT_OF_MEMORY = (
-    "routerd is out of memory: give the machine more, or the box's control group (MemoryMax=), "
-    "its address space (`ulimit -v`)"
-)
-NO_PLACE = "there would be more than 4,096 own destinations"
-MEANINGS = {
-    CLASHES: "another destination has its address with another prefix length: withdraw that",
-    "refused 4": "the machine's clock was set back: start the box again",
-    "refused 5": f"{NO_PLACE}, or 16,384 LSAs: withdraw others",
-    "refused 6": OUT_OF_MEMORY,
-    "out of memory": OUT_OF_MEMORY,
-    "refused 7": "it has handled 2^63 events: start the box again",
-    "refused 8": "the programs were being changed at that moment",
-}
-"""What answers of `routerd` mean, and what to do (docs/use/OPERATING.md, "Refusals")."""
 
 
 class Announced(NamedTuple):

@@ -223,12 +223,12 @@ class Ways:
     ) -> Iterator[tuple[Rank, Vertex]]:
         ends = [originator]
         if one.forwarding != NOBODY:
-            way, ends = self._toward(one.forwarding)
+            way, ends = self.toward(one.forwarding)
             cost = sum(way)
         rank = (one.type, one.metric, cost) if one.type == 2 else (one.type, cost + one.metric)
         return ((rank, end) for end in ends)
 
-    def _toward(self, address: IPv4Address) -> tuple[Rank, list[Vertex]]:
+    def toward(self, address: IPv4Address) -> tuple[Rank, list[Vertex]]:
         """The way to a forwarding address, by the longest network of the area that has it (RFC
         2328, 16.4)."""
         known = {

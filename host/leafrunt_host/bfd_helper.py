@@ -28,6 +28,7 @@ from typing import Any
 from leafrunt_host.bfd_packets import BfdKey, KeyType, State, Why
 from leafrunt_host.bfd_session import Session, Settings, kept, kept_of
 from leafrunt_host.bfd_sockets import CONTROL_PORT, TTL
+from leafrunt_host.confined import confine
 from leafrunt_host.isolation import (
     CLONE_NEWNET,
     PR_CAP_AMBIENT,
@@ -311,6 +312,7 @@ def give_up_privileges(user: int) -> None:
     libc_call("prctl", PR_CAP_AMBIENT, PR_CAP_AMBIENT_CLEAR_ALL, 0, 0, 0)
     resource.setrlimit(resource.RLIMIT_AS, (ADDRESS_SPACE, ADDRESS_SPACE))
     resource.setrlimit(resource.RLIMIT_NOFILE, (MOST_FILES, MOST_FILES))
+    confine([os.path.dirname(__file__), os.path.dirname(os.__file__)])
 
 
 def main(arguments: list[str]) -> int:

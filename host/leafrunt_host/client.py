@@ -5,8 +5,7 @@ import socket
 import time
 from pathlib import Path
 
-from leafrunt_host.configuration import BOX_NAME
-from leafrunt_host.rooms import LONGEST_SOCKET_PATH, running, socket_path
+from leafrunt_host.rooms import BOX_NAME, LONGEST_SOCKET_PATH, running, socket_path
 from leafrunt_host.statuses import FAILED, REFUSED, Status, Stopped
 from leafrunt_host.tables import shown
 

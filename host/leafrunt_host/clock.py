@@ -36,13 +36,14 @@ class Step:
             "has caught up, so neighbors drop this router: start the box again"
         )
 
-    def remark(self, now: float) -> str | None:
-        """What is still to be said of it now; None if nothing is."""
+    def remark(self, now: float, later: float = 0.0) -> str | None:
+        """What is still to be said of it now; None if nothing is. By so many seconds the clock was
+        set since."""
         passed = now - self.at
         if self.seconds > 0:
             when = moment_text(self.moment)
             return f"{self.news()} (at {when})" if passed < TOLD else None
-        left = -self.seconds - passed
+        left = -self.seconds - passed - later
         return f"{self.news()} (or wait {left:.0f} s more)" if left > 0 else None
 
 

@@ -13,6 +13,7 @@ from collections.abc import Callable, Mapping
 from dataclasses import dataclass, field
 from hashlib import sha256
 from ipaddress import IPv4Address, IPv4Interface, IPv4Network
+from itertools import product
 from pathlib import Path
 from typing import Any
 
@@ -22,12 +23,20 @@ from leafrunt_host.bfd_packets import BfdKey, KeyType
 from leafrunt_host.bfd_settings import AnyKey
 from leafrunt_host.counter_names import counter_names
 from leafrunt_host.destinations import MOST_EXTERNALS, Announcement
-from leafrunt_host.isolation import USER, Account, account_of
+from leafrunt_host.interface_names import INTERFACE_NAME, is_pattern, matches
+from leafrunt_host.isolation import Account, account_of
 from leafrunt_host.journal import LEVELS
 from leafrunt_host.kernel import KernelInterface
 from leafrunt_host.kernel_settings import KernelSettings, kernel_settings_of, look_at_vrf
-from leafrunt_host.redistribution import Redistribution, redistribution_of, source_of
-from leafrunt_host.rooms import LONGEST_OBJECT
+from leafrunt_host.meanings import hint
+from leafrunt_host.redistribution import (
+    MARTIANS,
+    NOT_ANNOUNCED,
+    Redistribution,
+    redistribution_of,
+    source_of,
+)
+from leafrunt_host.rooms import BOX_NAME, LONGEST_OBJECT
 from leafrunt_host.statuses import Status, Stopped
 from leafrunt_host.tables import Mistake, Table, shown, toml_of
 
@@ -37,11 +46,12 @@ LEAST_MTU, MOST_MTU = 576, 65535
 ALONE = 32
 """The length of a prefix that has one address alone."""
 LONGEST_SECRET = 256
-BOX_NAME = re.compile(r"[A-Za-z0-9][A-Za-z0-9._-]{0,63}")
-INTERFACE_NAME = re.compile(r"(?!\.{1,2}$)[^\s/:%]{1,15}")
 KEY_NAME = re.compile(r"[A-Za-z0-9_-]{1,64}")
 HOOKS = ("count", "tag", "price", "veto")
 OBJECT_HEAD = b"BPFH\x01"
+ELF_HEAD = b"\x7fELF"
+ACCEPTED = re.compile(r"accepted bound (\d+)")
+ANNOUNCED = f"A.B.C.D/L whose bits after the first L are 0, not in {', '.join(NOT_ANNOUNCED)}"
 ROUTERD = "/usr/local/bin/routerd"
 SECONDS_TO_VERIFY = 60
 
@@ -75,6 +85,7 @@ class Program:
     object: Path
     hook: str
     digest: str = ""
+    bound: int = 0
 
 
 @dataclass(frozen=True)
@@ -99,6 +110,8 @@ class Configuration:
     log_level: str = "info"
     table: KernelSettings = KernelSettings()
     """Which table of the kernel's is kept, and how, if one is."""
+    awaited: tuple[str, ...] = ()
+    """Names of interfaces that aren't there yet, and patterns of names."""
 
     def text(self, ports: list[tuple[int, int]]) -> str:
         """The configuration of `routerd`: an interface's datagrams come to the first port of its
@@ -223,6 +236,7 @@ class _Reader:
         self._is_passive = False
         """What interfaces are that don't say it."""
         self._advice: list[str] = []
+        self._awaited: list[str] = []
 
     def read(self) -> Configuration | None:
         self._box_name()
@@ -261,6 +275,7 @@ class _Reader:
             redistribution,
             log_level=log_level or "info",
             table=settings,
+            awaited=tuple(self._awaited),
         )
 
     def _box_name(self) -> None:
@@ -289,7 +304,7 @@ class _Reader:
         try:
             return account_of(name or None, self._path.stem)
         except ValueError as error:
-            self._top.note("user", f"{shown(name or USER)}, {error}", "a user of this machine")
+            self._top.note("user", f"{shown(name)}, {error}", "a user of this machine")
             return None
 
     def _routerd(self, account: Account | None) -> Path | None:
@@ -359,7 +374,7 @@ class _Reader:
         try:
             key = Key(number, algorithm, secret, lifetime)
         except ValueError as error:
-            table.note("", str(error), "a key as docs/use/HOST.md describes it")
+            table.note("", str(error), "a key as docs/use/CONFIGURATION.md describes it")
             return None
         advice = key.advice()
         if advice:
@@ -394,28 +409,64 @@ class _Reader:
                 f"1 to {MOST_INTERFACES} tables [[interface]]",
             )
         read: list[InterfaceSettings] = []
+        by_pattern: list[InterfaceSettings] = []
+        names: set[str] = set()
         for table in tables or []:
-            one = self._interface(table, keys)
+            found, name = self._interface(table, keys)
             table.end()
-            if one is None:
-                continue
-            for other in read:
-                if one.name == other.name:
-                    table.note(
-                        "name",
-                        f"{shown(one.name)}, as in an earlier [[interface]]",
-                        "each interface once",
-                    )
-                elif one.address.ip == other.address.ip:
-                    found = f"{one.address}, which {other.name} has too"
-                    table.note("address", found, "an address of each interface's own")
-            read.append(one)
-        return read
+            if is_pattern(name):
+                by_pattern += found
+            elif name is not None:
+                self._look_at_others(table, name, found, names, read)
+                names.add(name)
+                read += found
+        return self._with_patterns(read, by_pattern, names)
 
-    def _interface(self, table: Table, keys: dict[str, AnyKey] | None) -> InterfaceSettings | None:
-        inside = self._kernel_interface(table)
+    @staticmethod
+    def _look_at_others(
+        table: Table,
+        name: str,
+        found: list[InterfaceSettings],
+        names: set[str],
+        others: list[InterfaceSettings],
+    ) -> None:
+        """Notes what an earlier section has too."""
+        if name in names:
+            told = f"{shown(name)}, as in an earlier [[interface]]"
+            table.note("name", told, "each interface once")
+            return
+        for one, other in product(found, others):
+            if one.address.ip == other.address.ip:
+                told = f"{one.address}, which {other.name} has too"
+                table.note("address", told, "an address of each interface's own")
+
+    def _with_patterns(
+        self, read: list[InterfaceSettings], more: list[InterfaceSettings], names: set[str]
+    ) -> list[InterfaceSettings]:
+        """Those that are named, then those of patterns that no section names: as many as there may
+        be, each with an address of its own."""
+        found = list(read)
+        for one in more:
+            if one.name in names or one.name in (each.name for each in found):
+                continue
+            other = next((each for each in found if each.address.ip == one.address.ip), None)
+            if other:
+                self._advice.append(f"{one.name} is left out: {other.name} has its address too")
+            elif len(found) >= MOST_INTERFACES:
+                self._advice.append(f"{one.name} is left out: {MOST_INTERFACES} are the most")
+            else:
+                found.append(one)
+        return found
+
+    def _interface(
+        self, table: Table, keys: dict[str, AnyKey] | None
+    ) -> tuple[list[InterfaceSettings], str | None]:
+        """What a section says of an interface that is there, or of each that its pattern names; and
+        the name or pattern."""
+        name = self._name(table)
+        inside = self._kernel.get(name) if name and not is_pattern(name) else None
         passive = table.truth("passive", self._is_passive)
-        address = self._address(table, inside)
+        address = self._address(table, inside, is_pattern(name))
         cost = table.whole("cost", 1, 65535, 10)
         hello = table.whole("hello_interval", 1, 65535, 10)
         dead = table.whole("dead_interval", 1, 4294967295, 4 * hello)
@@ -433,23 +484,51 @@ class _Reader:
                 found,
                 f"an interface with an MTU of {LEAST_MTU} to {MOST_MTU}, or passive = true",
             )
-        if not table.is_sound or inside is None or address is None or chosen is None:
-            return None
-        return InterfaceSettings(
-            inside.name,
-            address,
-            inside.mtu,
-            cost,
-            hello,
-            dead,
-            retransmit,
-            delay,
-            passive,
-            chosen,
-            self._network(inside, address, passive or peer is not None),
-            peer,
-            bfd,
-        )
+        if not table.is_sound or name is None or chosen is None:
+            return [], name
+        return [
+            InterfaceSettings(
+                each.name,
+                its,
+                each.mtu,
+                cost,
+                hello,
+                dead,
+                retransmit,
+                delay,
+                passive,
+                chosen,
+                self._network(each, its, passive or peer is not None),
+                peer,
+                bfd,
+            )
+            for each, its in self._there(name, inside, address, passive)
+        ], name
+
+    def _there(
+        self,
+        name: str,
+        inside: KernelInterface | None,
+        address: IPv4Interface | None,
+        passive: bool,
+    ) -> list[tuple[KernelInterface, IPv4Interface]]:
+        """The kernel's interfaces of that name or pattern, each with its address. The others are
+        awaited."""
+        if is_pattern(name):
+            self._awaited.append(name)
+            return [
+                (each, each.addresses[0])
+                for each in sorted(self._kernel.values(), key=lambda each: each.name)
+                if matches(name, each.name)
+                and len(each.addresses) == 1
+                and (passive or LEAST_MTU <= each.mtu <= MOST_MTU)
+            ]
+        if inside and address and address in inside.addresses + inside.secondary:
+            return [(inside, address)]
+        why = "it has no IPv4 address" if inside else "the kernel doesn't have it"
+        self._awaited.append(name)
+        self._advice.append(f"{name}: {why}: the box runs without it, and takes it once it comes")
+        return []
 
     @staticmethod
     def _peer(table: Table, address: IPv4Interface | None, passive: bool) -> IPv4Address | None:
@@ -478,42 +557,38 @@ class _Reader:
             )
         return None
 
-    def _kernel_interface(self, table: Table) -> KernelInterface | None:
-        """The kernel's interface of this name."""
-        allowed = f"the name of an interface of the kernel: {', '.join(sorted(self._kernel)) or 'there is none'}"
+    @staticmethod
+    def _name(table: Table) -> str | None:
+        """The name of an interface, or a pattern of names."""
+        allowed = "an interface's name, or a pattern of names: at most 15 bytes, no space, / or :"
         name = table.text("name", allowed)
-        if name is None:
+        if name is not None and not INTERFACE_NAME.fullmatch(name):
+            table.note("name", shown(name), allowed)
             return None
-        if not INTERFACE_NAME.fullmatch(name) or name not in self._kernel:
-            table.note("name", f"{shown(name)}, which the kernel doesn't have", allowed)
-            return None
-        return self._kernel[name]
+        return name
 
     @staticmethod
-    def _address(table: Table, inside: KernelInterface | None) -> IPv4Interface | None:
-        """The address that is asked for, or the only one that the kernel's interface has."""
+    def _address(
+        table: Table, inside: KernelInterface | None, is_of_many: bool
+    ) -> IPv4Interface | None:
+        """The address that is asked for, or the only one that the kernel's interface has; None if
+        it has none yet."""
         everything = inside.addresses + inside.secondary if inside else ()
         those = ", ".join(map(str, everything))
         if table.has("address"):
-            allowed = (
-                f"an address of the interface with its prefix length: {those}"
-                if those
-                else "A.B.C.D/L"
-            )
+            allowed = "none for a pattern of names" if is_of_many else "A.B.C.D/L"
+            if those:
+                allowed = f"an address of the interface with its prefix length: {those}"
             address = table.parsed("address", allowed, IPv4Interface)
-            if address is not None and inside and address not in everything:
-                table.note("address", shown(str(address)), allowed)
+            is_other = address is not None and (address.is_loopback or (those and address not in everything))
+            if address is not None and (is_of_many or is_other):
+                why = "" if is_of_many else ", which the interface doesn't have"
+                why = ", of the loopback, which no neighbor reaches" if address.is_loopback else why
+                table.note("address", f"{shown(str(address))}{why}", allowed)
                 return None
             return address
         table.text("address", "", "none")
-        if inside is None:
-            return None
-        if not everything:
-            table.note(
-                "name",
-                f"{shown(inside.name)}, which has no IPv4 address",
-                "an interface that has one",
-            )
+        if inside is None or not everything:
             return None
         if len(inside.addresses) != 1:
             table.note(
@@ -572,8 +647,8 @@ class _Reader:
         prefixes: dict[IPv4Address, IPv4Network] = {}
         read: list[Announcement] = []
         for table in tables or []:
-            allowed = "A.B.C.D/L whose bits after the first L are 0"
-            prefix = table.parsed("prefix", allowed, prefix_of)
+            allowed = ANNOUNCED
+            prefix = table.parsed("prefix", allowed, announced_prefix)
             source = source_of(table)
             table.end()
             if prefix is not None and prefix.network_address in prefixes:
@@ -612,13 +687,25 @@ class _Reader:
             return None
         path = self._in_folder(text)
         found, hook = object_hook(path)
+        wanted = table.one_of("hook", HOOKS, hook or HOOKS[0])
+        bound = 0
         if hook and routerd:
             verdict = self._judge(routerd, path)
-            found = "" if verdict.startswith("accepted bound ") else verdict
+            accepted = ACCEPTED.fullmatch(verdict)
+            bound = int(accepted[1]) if accepted else 0
+            found = "" if accepted else refusal_text(verdict)
         if found:
             table.note("object", f"{shown(text)}: {found}", allowed)
             return None
-        return Program(path, hook, digest_of(path))
+        if wanted not in (None, hook):
+            table.note("object", f"{shown(text)}, for the hook {hook}", f"one for the hook {wanted}")
+        return Program(path, hook, digest_of(path), bound)
+
+
+def refusal_text(verdict: str) -> str:
+    """A refusal of `routerd verify` with what its number means."""
+    meaning = hint("", verdict) if verdict.startswith(("object", "code", "refused slot")) else ""
+    return f"{verdict}: {meaning}" if meaning else verdict
 
 
 def interface_title(at: int, items: dict[str, Any]) -> str:
@@ -635,6 +722,14 @@ def prefix_of(text: str) -> IPv4Network:
     """A prefix with its length, in the form that `routerd` reads."""
     prefix = IPv4Network(text)
     if str(prefix) != text:
+        raise ValueError(text)
+    return prefix
+
+
+def announced_prefix(text: str) -> IPv4Network:
+    """The same of a destination that may be announced."""
+    prefix = prefix_of(text)
+    if prefix.prefixlen and any(each.has(prefix) for each in MARTIANS):
         raise ValueError(text)
     return prefix
 
@@ -675,6 +770,8 @@ def object_hook(path: Path) -> tuple[str, str]:
             head = it.read(16) if stat.S_ISREG(status.st_mode) else b""
     except (OSError, ValueError) as error:
         return str(getattr(error, "strerror", None) or error), ""
+    if head.startswith(ELF_HEAD):
+        return "an ELF file: `hooktool build` makes objects of it", ""
     if not head.startswith(OBJECT_HEAD) or len(head) < 16 or not 1 <= head[5] <= len(HOOKS):
         return "no object file", ""
     if status.st_size > LONGEST_OBJECT:

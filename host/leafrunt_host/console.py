@@ -3,6 +3,7 @@ from __future__ import annotations
 
 import io
 import os
+import re
 import sys
 from collections.abc import Iterable
 from pathlib import Path
@@ -10,6 +11,7 @@ from types import ModuleType
 from typing import TextIO
 
 from leafrunt_host.client import REFUSED, Client
+from leafrunt_host.meanings import hint
 from leafrunt_host.statuses import Status
 from leafrunt_host.words import first_words, help_lines
 
@@ -17,6 +19,12 @@ HISTORY = ".leafrunt_history"
 MOST_HISTORY = 1000
 HOOKS = ["count", "tag", "price", "veto"]
 LEAVING = ("quit", "exit")
+FAILURES = {
+    Status.FAILED: re.compile(r"cannot |failed: "),
+    Status.MEMORY: re.compile(r"out of memory$"),
+    Status.REFUSED: re.compile(r"refused|unknown$|(object|code) refusal "),
+}
+"""How answers begin by which a line isn't done (docs/use/OPERATING.md, docs/reference/FORMATS.md)."""
 
 
 def asked(client: Client, line: str) -> list[str]:
@@ -49,18 +57,31 @@ def captured(client: Client, name: str) -> list[str]:
 
 
 def console(client: Client, lines: Iterable[str], output: TextIO) -> Status:
-    """Answers each line, until one leaves or ends the box, or there is none any more."""
+    """Answers each line, until one leaves or ends the box, or there is none any more. The status is
+    that of the first one that is refused or fails."""
+    worst = Status.DONE
     for line in lines:
         line = line.rstrip("\n")
         if line in LEAVING:
             break
         if not line.strip():
             continue
-        print(*asked(client, line), sep="\n", file=output, flush=True)
+        answer = asked(client, line)
+        print(*answer, sep="\n", file=output, flush=True)
+        if len(answer) == 1 and (meant := hint(line, answer[0])):
+            # (beside the answer: whoever reads standard output gets what `routerd` says alone)
+            print(f"({meant})", file=sys.stderr, flush=True)
+        worst = worst or status_of(answer)
         if line == "down":
             print(*client.answer(), sep="\n", file=output, flush=True)
             break
-    return Status.DONE
+    return worst
+
+
+def status_of(answer: list[str]) -> Status:
+    """How the command ends whose line is answered so, as `routerd`'s own do."""
+    said = answer[0] if answer else ""
+    return next((status for status, form in FAILURES.items() if form.match(said)), Status.DONE)
 
 
 def typed_lines(prompt: str) -> Iterable[str]:
@@ -140,5 +161,6 @@ def run(client: Client, commands: list[str]) -> Status:
         sys.stdin.reconfigure(errors="replace")
     if sys.stdin.isatty():
         print(f"box {client.box}: `help` lists what can be asked, `quit` leaves")
-        return console(client, typed_lines(f"{client.box}> "), sys.stdout)
+        console(client, typed_lines(f"{client.box}> "), sys.stdout)
+        return Status.DONE
     return console(client, sys.stdin, sys.stdout)

@@ -1,7 +1,7 @@
 """What differs between the configuration that a box runs with and its file as it is now."""
 from __future__ import annotations
 
-from collections.abc import Iterator
+from collections.abc import Collection, Iterator
 from dataclasses import replace
 
 from leafrunt_host.configuration import Configuration, InterfaceSettings
@@ -18,6 +18,7 @@ OF_ROUTERD = (
 """What `routerd` reads of an interface, at its start alone."""
 OF_BRIDGE = ("keys", "network", "peer", "mtu")
 """What the bridge alone goes by, at each packet."""
+MOST_NAMED = 4
 OF_OTHERS = ("name", "passive", "bfd")
 
 
@@ -76,6 +77,49 @@ def for_bridge(old: InterfaceSettings, new: InterfaceSettings) -> Iterator[str]:
         yield f"{new.name}: {'BFD' if new.bfd else 'no BFD'} now"
     if old.mtu != new.mtu:
         yield f"{new.name}: MTU {new.mtu} in place of {old.mtu}"
+
+
+def would_change(
+    old: Configuration, new: Configuration, by_hand: Collection[str]
+) -> Iterator[str]:
+    """What a reload would do: a line for each thing."""
+    anew = list(for_routerd(old, new))
+    yield from anew
+    if anew:
+        yield "another routerd takes over for that, and adjacencies stay"
+    earlier = {each.name: each for each in old.interfaces}
+    for each in new.interfaces:
+        if each.name in earlier:
+            yield from for_bridge(earlier[each.name], each)
+    if (old.kernel, old.table) != (new.kernel, new.table):
+        yield f"kernel: {new.table if new.kernel else 'no table'} is kept from then on"
+    if old.redistribution != new.redistribution:
+        yield "redistribution: as it is configured now"
+    yield from destinations(old, new)
+    if old.counters != new.counters:
+        yield "counters: other names"
+    if old.log_level != new.log_level:
+        yield f"log_level: {new.log_level}"
+    before = {each.hook: each for each in old.programs}
+    after = {each.hook: each for each in new.programs}
+    for hook in sorted(before | after):
+        if before.get(hook) != after.get(hook):
+            it = after.get(hook)
+            stays = ", but one that was attached by hand stays" if hook in by_hand else ""
+            yield f"{hook}: {it.object if it else 'no program'}{stays}"
+
+
+def destinations(old: Configuration, new: Configuration) -> Iterator[str]:
+    """What is announced anew, otherwise or no longer: some by their names."""
+    before = {each.prefix: each for each in old.announcements}
+    after = {each.prefix: each for each in new.announcements}
+    changed = [each for each, it in after.items() if before.get(each) != it]
+    gone = [each for each in before if each not in after]
+    for title, prefixes in (("announced or changed", changed), ("withdrawn", gone)):
+        if prefixes:
+            names = ", ".join(map(str, prefixes[:MOST_NAMED]))
+            more = f" and {len(prefixes) - MOST_NAMED} more" if len(prefixes) > MOST_NAMED else ""
+            yield f"{title}: {names}{more}"
 
 
 def of_bridge(one: InterfaceSettings) -> tuple[object, ...]:

@@ -8,9 +8,9 @@ error, and never part of a document.
 from __future__ import annotations
 
 import re
-from collections.abc import Iterable
+from collections.abc import Callable, Iterable
+from typing import TYPE_CHECKING
 
-from leafrunt_host.kernel import Json
 from leafrunt_host.lsas import (
     Body,
     ExternalBody,
@@ -25,7 +25,10 @@ from leafrunt_host.lsas import (
 )
 from leafrunt_host.statuses import Stopped
 from leafrunt_host.tables import shown
-from leafrunt_host.topology import Entry
+
+if TYPE_CHECKING:
+    from leafrunt_host.kernel import Json
+    from leafrunt_host.topology import Entry
 
 VERSIONS = {
     "status": 1,
@@ -36,6 +39,8 @@ VERSIONS = {
     "programs": 1,
     "counters": 1,
     "database": 1,
+    "why": 1,
+    "changes": 1,
 }
 PREFIX = r"\d{1,3}(?:\.\d{1,3}){3}/\d{1,2}"
 ROUTE = re.compile(
@@ -118,7 +123,8 @@ def hops_by(interfaces: dict[str, Json], via: str) -> list[Json]:
 
 def table_of(status: Json, lines: Iterable[str]) -> Json:
     """The routing table, by the lines of `table`."""
-    interfaces, hops, routes = interfaces_by_number(status), dict[str, list[Json]](), []
+    interfaces, routes = interfaces_by_number(status), []
+    hops: dict[str, list[Json]] = {}
     for prefix, path_type, cost, via in (each.groups() for each in read_each(ROUTE, lines)):
         if via not in hops:
             hops[via] = hops_by(interfaces, via)
@@ -256,3 +262,14 @@ def link_of(link: RouterLink) -> Json:
         "link_data": str(link.data),
         "metric": link.metric,
     }
+
+
+DOCUMENTS: dict[str, Callable[[Json, Iterable[str]], Json]] = {
+    "table": table_of,
+    "neighbors": neighbors_of,
+    "interfaces": lambda status, _lines: interfaces_of(status),
+    "announced": announced_of,
+    "programs": programs_of,
+    "counters": counters_of,
+}
+"""The document of each list, made of the box's status and the lines of the console."""

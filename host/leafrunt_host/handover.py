@@ -14,12 +14,13 @@ from leafrunt_host import bfd_session
 from leafrunt_host.announcements import TAKEN, Announced, Announcements
 from leafrunt_host.bridge import CannotOpen
 from leafrunt_host.configuration import Configuration
-from leafrunt_host.desk import ATTACHED, Desk
+from leafrunt_host.desk import Desk
 from leafrunt_host.isolation import CannotIsolate
 from leafrunt_host.journal import where_it_failed
 from leafrunt_host.keeper import Keeper
 from leafrunt_host.link import Interface, Link
 from leafrunt_host.packets import Hello, Packet
+from leafrunt_host.programs import Attached, attached
 from leafrunt_host.rehearsal import Rehearsal, prefixes_of
 from leafrunt_host.router import Router, RouterGone
 from leafrunt_host.sockets import Place
@@ -60,7 +61,7 @@ class Kept:
 class Prepared:
     """What the new one has: programs by their hooks, each with its bound, and destinations."""
 
-    programs: dict[str, tuple[str, int]]
+    programs: dict[str, Attached]
     given: dict[IPv4Network, Announced]
 
 
@@ -147,8 +148,9 @@ class Handover:
     def _taken_over(self, fresh: Fresh, new: Configuration, programs: dict[str, str]) -> Prepared:
         """Once it has come to where the old one is."""
         kept = self._kept(new)
+        owed = {each.after: each.link.owed for each in kept}
         rehearsal = Rehearsal(
-            fresh, self._hellos(kept, new), self.topology, new.router_id, self.ending
+            fresh, self._hellos(kept, new), self.topology, new.router_id, self.ending, owed
         )
         try:
             rehearsal.come_to_full()
@@ -157,6 +159,7 @@ class Handover:
             if self._is_to_find_all(new, programs):
                 old = self.parts.router
                 rehearsal.find(lambda: prefixes_of(old.ask_list("table") or []))
+            rehearsal.owe()
             self.parts.bridge.work.do(lambda: self._swap(fresh, new, kept, rehearsal))
         finally:
             rehearsal.close()
@@ -197,25 +200,31 @@ class Handover:
 
     def _prepared(self, router: Router, programs: dict[str, str]) -> Prepared:
         """Attaches the programs and announces all destinations."""
-        attached, given = {}, {}
+        found: dict[str, Attached] = {}
+        given: dict[IPv4Network, Announced] = {}
         for path in programs.values():
             answer = router.ask(f"attach {path}")[0]
-            read = ATTACHED.fullmatch(answer)
-            if read is None:
+            its = attached(answer, path)
+            if not its:
                 raise Stopped(f"{path}: {answer}")
-            attached[read[1]] = path, int(read[2])
-        for prefix, it in dict(self.known.announced).items():
-            answer = router.ask(it.announcement.line())[0]
+            for hook, it in its.items():
+                before = self.known.programs.get(hook)
+                is_same = before and before.object == path
+                found[hook] = it._replace(by=before.by, at=before.at) if before and is_same else it
+        for prefix, one in dict(self.known.announced).items():
+            answer = router.ask(one.announcement.line())[0]
             if answer in TAKEN:
-                given[prefix] = it._replace(answer=answer)
-        return Prepared(attached, given)
+                given[prefix] = one._replace(answer=answer)
+        return Prepared(found, given)
 
     def _is_to_find_all(self, new: Configuration, programs: dict[str, str]) -> bool:
-        """Whether it has to have the same destinations: the same interfaces and programs."""
-        old = self.known.configuration
-        names = [[each.name for each in one.interfaces] for one in (old, new)]
-        before = {hook: path for hook, (path, _) in self.known.programs.items()}
-        return names[0] == names[1] and programs == before and bool(self.known.neighbors)
+        """Whether it has to have the same destinations: the same networks, neighbors, programs."""
+        ends = [
+            [(each.name, each.address, each.passive) for each in one.interfaces]
+            for one in (self.known.configuration, new)
+        ]
+        before = {hook: it.object for hook, it in self.known.programs.items()}
+        return ends[0] == ends[1] and programs == before and bool(self.known.neighbors)
 
     def _swap(
         self, fresh: Fresh, new: Configuration, kept: list[Kept], rehearsal: Rehearsal
@@ -240,7 +249,10 @@ class Handover:
         pairs: list[tuple[Link, Interface]] = [
             (each.link, interfaces[each.after]) for each in kept
         ]
+        self.parts.bridge.settle()
         rehearsal.catch_up()
+        if unowed := rehearsal.unowed():
+            raise Stopped(f"a neighbor hasn't acknowledged {len(unowed)} LSAs: try again")
         with self._no_way_back():
             self.parts.bridge.hand_over(pairs, list(made.values()), fresh.udp, fresh.listed)
             for each in self.parts.sinks.values():
@@ -248,7 +260,7 @@ class Handover:
             self.parts.router, self.parts.links = fresh.router, links | made
             self.parts.sinks, self.parts.ports = fresh.sinks, fresh.ports
             follow_numbers(self.known, new)
-            self.parts.bridge.send_of_router(rehearsal.last_packets)
+            self.parts.bridge.send_of_router(rehearsal.last_packets(full))
             for number in rehearsal.numbers - full:
                 self.parts.bridge.neighbor_lost(number)
 

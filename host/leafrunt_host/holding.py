@@ -14,7 +14,8 @@ from dataclasses import dataclass, field
 from leafrunt_host.lsas import LinkType, LsType, links_of
 from leafrunt_host.packets import HEADER, Malformed, PacketType, lsas_of
 from leafrunt_host.waker import Waker
-from leafrunt_host.withheld import AGE, FLUSHED, INSTANCE
+from leafrunt_host.places import AGE, FLUSHED
+from leafrunt_host.withheld import INSTANCE
 
 LONGEST = 2.0
 """Seconds for which it is held at most, whatever the kernel does."""

@@ -1,5 +1,5 @@
 """A world of its own for `routerd`: a user that nobody else is, no capabilities and no way to any,
-a bounded address space, and a network namespace that has nothing but a loopback interface. The
+bounded memory, files and system calls (`confined`), and a network namespace that has nothing but a loopback interface. The
 bridge's ends of the UDP sockets are opened there too, so no other user of this machine reaches
 them or `routerd`'s, and what `routerd` might do wrong reaches nothing.
 """
@@ -21,17 +21,17 @@ from dataclasses import dataclass
 from pathlib import Path
 from typing import TypeVar
 
+from leafrunt_host import confined
+from leafrunt_host.confined import ADDRESS_SPACE
+
 log = logging.getLogger("leafrunt.isolation")
 T = TypeVar("T")
 PLACES = "/usr/sbin:/usr/bin:/sbin:/bin"
 """Where programs of the system are looked for: never where the caller's PATH says."""
-USER = "leafrunt"
-"""Whom `routerd` runs as, if the system has this user and the configuration names no other."""
 FIRST_NUMBER, LAST_NUMBER = 61184, 65519
 """User numbers that systemd gives to services that have no user (DynamicUser=): nobody's else."""
-ADDRESS_SPACE = 1 << 30
-"""Bytes of address space that `routerd` may have: 63 interfaces and a full database need some
-700 MB of it, with one arena for all threads."""
+CONFINED = Path(confined.__file__).read_text(encoding="utf-8")
+"""The program that becomes `routerd`: whoever that runs as may not be able to read this folder."""
 ENVIRONMENT = {
     "PATH": PLACES,
     "LANG": "C.UTF-8",
@@ -49,6 +49,8 @@ PR_SET_NO_NEW_PRIVS = 38  # <linux/prctl.h>
 PR_CAP_AMBIENT, PR_CAP_AMBIENT_CLEAR_ALL = 47, 4  # the same
 SIOCSIFFLAGS = 0x8914  # <linux/sockios.h>
 IFF_UP = 0x1  # <linux/if.h>
+OF_NAMESPACES, OF_NETWORK, OF_USERS = "CAP_SYS_ADMIN", "CAP_NET_ADMIN", "CAP_SETUID and CAP_SETGID"
+"""Capabilities (capabilities(7)) that a namespace, its interface and another user need."""
 
 
 class CannotIsolate(Exception):
@@ -75,23 +77,21 @@ class Account:
 
 
 def account_of(name: str | None, box: str) -> Account:
-    """The account of a user, by default of `leafrunt`, and if there is none, or this process runs
-    as that, one of a number that nobody has. `ValueError`, with half a sentence, if the user isn't
-    there, is root, or is this process's own, whose files and keys aren't `routerd`'s."""
+    """The account of a user, by default one of a number that nobody has: two boxes' `routerd`s can't
+    end each other. `ValueError`, with half a sentence, if the user isn't there, is root, or is this
+    process's own, whose files and keys aren't `routerd`'s."""
+    if name is None:
+        number = free_number(box)
+        return Account(str(number), number, number)
     try:
-        found = pwd.getpwnam(name or USER)
+        found = pwd.getpwnam(name)
     except KeyError:
-        if name:
-            raise ValueError("which the system doesn't have") from None
-        found = None
-    if found and found.pw_uid == 0:
+        raise ValueError("which the system doesn't have") from None
+    if found.pw_uid == 0:
         raise ValueError("who may do everything")
-    if found and found.pw_uid != os.geteuid():
-        return Account(found.pw_name, found.pw_uid, found.pw_gid)
-    if name:
+    if found.pw_uid == os.geteuid():
         raise ValueError("whom leafrunt itself runs as")
-    number = free_number(box)
-    return Account(str(number), number, number)
+    return Account(found.pw_name, found.pw_uid, found.pw_gid)
 
 
 def free_number(box: str) -> int:
@@ -129,7 +129,10 @@ def enter_namespace() -> None:
     leaves."""
     libc_call("unshare", CLONE_NEWNET)
     with socket.socket(socket.AF_INET, socket.SOCK_DGRAM) as any_socket:
-        fcntl.ioctl(any_socket, SIOCSIFFLAGS, struct.pack("16sH22x", b"lo", IFF_UP))
+        try:
+            fcntl.ioctl(any_socket, SIOCSIFFLAGS, struct.pack("16sH22x", b"lo", IFF_UP))
+        except OSError as error:
+            raise OSError(error.errno, error.strerror, OF_NETWORK) from error
     libc_call("prctl", PR_SET_NO_NEW_PRIVS, 1, 0, 0, 0)
     libc_call("prctl", PR_CAP_AMBIENT, PR_CAP_AMBIENT_CLEAR_ALL, 0, 0, 0)
 
@@ -160,12 +163,17 @@ class World:
             self._inside.shutdown()
 
     def words(self, program: Path, *words: str) -> list[str]:
-        """The command that runs a program there with a bounded address space."""
-        bounded = shutil.which("prlimit", path=PLACES)
-        if bounded is None:
-            log.warning("there is no program `prlimit`: routerd's memory isn't bounded")
-            return [str(program), *words]
-        return [bounded, f"--as={ADDRESS_SPACE}", "--", str(program), *words]
+        """The command that runs a program there, with bounded memory, and in a world of its own with
+        the files and system calls that it needs alone."""
+        command = [str(program), *words]
+        means, before = ("prlimit", [f"--as={ADDRESS_SPACE}", "--"])
+        if self._inside:
+            means, before = "python3", ["-IS", "-c", CONFINED]
+        found = shutil.which(means, path=PLACES)
+        if found is None:
+            log.warning("there is no program `%s`: what routerd can take isn't bounded", means)
+            return command
+        return [found, *before, *command]
 
     def sockets_of(self, process: int) -> Path:
         """Where the kernel lists the UDP sockets of `routerd`'s namespace (proc(5))."""
@@ -174,7 +182,7 @@ class World:
 
 def why_not_isolated(error: OSError) -> str:
     if error.errno in (errno.EPERM, errno.EACCES):
-        needs = "root, or the capability CAP_SYS_ADMIN, is needed"
+        needs = f"root, or the capability {error.filename or OF_NAMESPACES}, is needed"
     elif error.errno == errno.ENOSPC:
         needs = "there are too many of them: sysctl user.max_net_namespaces"
     else:

@@ -5,6 +5,7 @@ import logging
 import os
 import queue
 import select
+import stat
 import sys
 import threading
 import time
@@ -81,6 +82,8 @@ class Shown(logging.Handler):
         super().__init__()
         self.setFormatter(formatter)
         self._descriptor, self._left_out = descriptor, 0
+        self._path = path_of(descriptor)
+        """The file that it is, if it is one."""
         self._waiting: queue.Queue[str] = queue.Queue(MOST_WAITING)
         threading.Thread(target=self._write_all, name="log", daemon=True).start()
 
@@ -99,8 +102,25 @@ class Shown(logging.Handler):
                 self._write(self.format(record))
             self._waiting.task_done()
 
+    def _follow(self) -> None:
+        """A file that logrotate(8) moved away is made anew under its name."""
+        if self._path is None:
+            return
+        try:
+            with suppress(FileNotFoundError):
+                if os.path.samestat(os.stat(self._path), os.fstat(self._descriptor)):
+                    return
+            flags = os.O_WRONLY | os.O_CREAT | os.O_APPEND | os.O_NOFOLLOW | os.O_NONBLOCK
+            new = os.open(self._path, flags | os.O_CLOEXEC, 0o640)
+            if stat.S_ISREG(os.fstat(new).st_mode):
+                os.dup2(new, self._descriptor)
+            os.close(new)
+        except OSError:
+            pass  # it goes on in the one that was moved
+
     def _write(self, line: str) -> None:
         data = f"{line}\n".encode(errors="replace")
+        self._follow()
         try:
             while data:
                 # (another program may have made it one that doesn't wait)
@@ -116,6 +136,16 @@ class Shown(logging.Handler):
         with self._waiting.all_tasks_done:
             while self._waiting.unfinished_tasks and (left := until - time.monotonic()) > 0:
                 self._waiting.all_tasks_done.wait(left)
+
+
+def path_of(descriptor: int) -> str | None:
+    """The path of the regular file that a descriptor is; None if it is none, or has none."""
+    try:
+        path = os.readlink(f"/proc/self/fd/{descriptor}")
+        its, there = os.fstat(descriptor), os.stat(path)
+    except OSError:
+        return None
+    return path if stat.S_ISREG(its.st_mode) and os.path.samestat(its, there) else None
 
 
 def where_it_failed(error: Exception) -> str:

@@ -3,20 +3,22 @@ says: in a thread of its own, which is woken when something happens."""
 from __future__ import annotations
 
 import logging
+import re
 import select
 import threading
 import time
 from collections.abc import Callable
 from ipaddress import IPv4Address, IPv4Network
 
-from leafrunt_host.announcements import OUT_OF_MEMORY
 from leafrunt_host.bfd import Neighbor as BfdNeighbor
 from leafrunt_host.bfd import Sessions
 from leafrunt_host.clock import Clock
 from leafrunt_host.exchange import Side
-from leafrunt_host.forwarding import CannotKeep, Hop, KernelTable
+from leafrunt_host.forwarding import ByAddress, CannotKeep, Hop, KernelTable
 from leafrunt_host.holding import Holding
 from leafrunt_host.journal import where_it_failed
+from leafrunt_host.meanings import OUT_OF_MEMORY
+from leafrunt_host.own_lsas import SECONDS_REPLACED
 from leafrunt_host.packets import HELLO, Packet, PacketType
 from leafrunt_host.refusals import Refusals
 from leafrunt_host.router import Router, RouterGone
@@ -44,13 +46,17 @@ SECONDS_ABSENT = 0.1
 """A route leaves the kernel once `table` has lacked it for so long. `routerd` takes an event first,
 then asks its programs and calculates what comes of it: between these `table` lacks every route
 that the event touched, some 10 ms long with 10,000 of them."""
+OWN_NETWORK = re.compile(rb" intra \d+ via 0\n")
+"""How a line of `table` ends that is of a network of the router itself."""
 TWO_WAY = ("ExStart", "Exchange", "Loading", "Full")
 """The states of a neighbor that hears this router (RFC 2328, 10.1): on a point-to-point link none
 stays in 2-Way."""
+SECONDS_OF_STEP = 5.0
+"""After a step of the clock so long adjacencies are lost by it."""
 MOST_STEPS = 3
 """Steps of the clock that are told of."""
 SECONDS_TO_SERVE = 150.0
-"""How long a look may take that is under way: `routerd` answers within 120."""
+"""How long a look may take that is under way: `routerd` answers within 120 s."""
 SECONDS_TO_STOP = 3.0
 """How long the end waits for a look that is under way."""
 
@@ -112,6 +118,7 @@ class Keeper:
         waker: Waker,
         give_up: Callable[[], None] = lambda: None,
         holding: Holding | None = None,
+        by_address: ByAddress = lambda _: {},
     ) -> None:
         """`holding` is told what the kernel has."""
         self._known, self._router = known, router
@@ -120,11 +127,13 @@ class Keeper:
         self._refused: set[str] = set()
         """The lists that `routerd` has refused when it was asked last."""
         self._kernel, self._waker, self._holding = kernel, waker, holding
+        self._by_address = by_address
         self._work = WorkQueue()
         self._ending, self._is_kept = threading.Event(), threading.Event()
         self._thread = threading.Thread(target=self._keep, name="keeper", daemon=True)
         self._pace = Pace(time.monotonic())
         self._table, self._lines = b"", list[bytes]()
+        self._own_networks = 0
         self._neighbors: list[str] = []
         self._own: frozenset[IPv4Network] = frozenset()
         self._announced: object = None
@@ -210,6 +219,8 @@ class Keeper:
                     self._kernel.notice()
                 self._pace.woken(time.monotonic())
                 self._ending.wait(AFTER[0])
+                if self._kernel and time.monotonic() < min(self._pace.due, looked + EACH):
+                    continue  # (it rests: a storm wakes it more often than it may look)
             if self._ending.is_set():
                 break
             looked = time.monotonic()
@@ -284,11 +295,28 @@ class Keeper:
             return False
         self._neighbors = neighbors
         known.neighbors = neighbors_of(neighbors)
-        names = {at: each.name for at, each in enumerate(known.configuration.interfaces, 1)}
-        names |= {number: link.interface.name for number, link in known.links.items()}
-        for line in known.adjacencies.look(neighbors, names, now):
-            log.info("%s", line)
+        for level, line in known.adjacencies.look(neighbors, self._names(), now, self._why):
+            log.log(level, "%s", line)
+        for each in known.adjacencies.changes():
+            known.history.note("neighbor", each.name, each.before, each.after, each.why)
         return True
+
+    def _names(self) -> dict[int, str]:
+        """The interfaces by their numbers."""
+        known = self._known
+        names = {at: each.name for at, each in enumerate(known.configuration.interfaces, 1)}
+        return names | {number: link.interface.name for number, link in known.links.items()}
+
+    def _why(self, number: int, router_id: IPv4Address) -> str:
+        """Why a neighbor isn't Full any more, as far as that is seen here."""
+        known = self._known
+        if (step := known.steps[-1:]) and time.monotonic() - step[0].at < SECONDS_OF_STEP:
+            return step[0].news()
+        session = known.sessions.report(number) if known.sessions else None
+        if session and session["state"] != "Up":
+            return f"BFD: {session['state']}, {session['diagnostic']}"
+        link = known.links.get(number)
+        return link.why_lost(router_id, time.monotonic()) if link else "the interface is gone"
 
     def _note(self, name: str, is_refused: bool) -> None:
         """What became of a list that `routerd` was asked for."""
@@ -328,8 +356,9 @@ class Keeper:
         is_changed = table != self._table
         if is_changed:
             self._table, self._lines = table, table.splitlines()
+            self._own_networks = len(OWN_NETWORK.findall(table))
         hops, own = self._hops(), self._own_destinations()
-        outcome = kernel.keep(self._lines, hops, own, SECONDS_ABSENT)
+        outcome = kernel.keep(self._lines, hops, own, self._patience(), self._by_address)
         self._is_kept.set()
         for each in outcome.news:
             log.warning("kernel: %s", each)
@@ -340,11 +369,19 @@ class Keeper:
             limited=outcome.limited,
             absent=outcome.absent,
             table=len(self._lines),
+            own=self._own_networks,
         )
         change = kernel.table_change()
         if change:
             self._known.note_table(time.time(), change)
+            self._known.history.routes(change.gone, change.come, self._names())
         return is_changed
+
+    def _patience(self) -> float:
+        """For how many seconds a route stays that `table` lacks."""
+        now, links = time.monotonic(), self._known.links.values()
+        is_in_doubt = any(each.is_table_in_doubt(now) for each in links)
+        return SECONDS_REPLACED + SECONDS_ABSENT if is_in_doubt else SECONDS_ABSENT
 
     def _own_destinations(self) -> frozenset[IPv4Network]:
         """What this router announces, made anew only if that changed."""

@@ -1,15 +1,32 @@
 """What the kernel says of its interfaces, and of the way that it takes to a destination."""
 from __future__ import annotations
 
-from collections.abc import Iterable, Mapping
+from collections.abc import Callable, Iterable, Mapping
 from contextlib import closing
 from dataclasses import dataclass, replace
 from ipaddress import IPv4Address, IPv4Interface, IPv4Network
 from typing import Any
 
-from leafrunt_host.rtnetlink import MAIN, Address, CannotAsk, Kernel, Link, NextHop, Route
+from leafrunt_host.rtnetlink import (
+    ATTRIBUTE,
+    MAIN,
+    ROUTE,
+    RTA_DST,
+    Address,
+    CannotAsk,
+    Kernel,
+    Link,
+    NextHop,
+    Route,
+    number,
+    route_of,
+)
 from leafrunt_host.statuses import Stopped
 
+DST_AT = ROUTE.size + len(number(0, 0))
+"""Linux says a route's destination right after the number of its table."""
+DST_KIND, DST = slice(DST_AT, DST_AT + ATTRIBUTE.size), slice(DST_AT + 4, DST_AT + 8)
+DST_HEAD = ATTRIBUTE.pack(8, RTA_DST)
 Json = dict[str, Any]
 """An object of JSON."""
 
@@ -122,6 +139,52 @@ def route_to(
         return None
     *_, prefix, route = min(found, key=lambda each: each[:2])
     return KernelRoute(prefix, tuple(ways_of(route, names, next_hops)))
+
+
+@dataclass(frozen=True)
+class Holding:
+    """A route of the kernel to all of a destination, and whose it is."""
+
+    route: KernelRoute
+    protocol: int
+    metric: int
+    type: int
+
+
+def may_hold(destination: IPv4Network) -> Callable[[bytes], bool]:
+    """Whether the body of a route's message may be one to all of the destination, by a look at
+    where the kernel has the prefix: of ten thousand most needn't be read."""
+    base, length = int(destination.network_address), destination.prefixlen
+
+    def may(body: bytes) -> bool:
+        its = body[1]
+        if its > length:
+            return False
+        if its == 0 or body[DST_KIND] != DST_HEAD:
+            return True
+        return not (int.from_bytes(body[DST], "big") ^ base) >> (32 - its)
+
+    return may
+
+
+def routes_to(destination: IPv4Network, table: int = MAIN) -> list[Holding]:
+    """The routes of a table to all of the destination, the one that the kernel takes first."""
+    may = may_hold(destination)
+    try:
+        with closing(Kernel(table=table)) as kernel:
+            bodies = [each for each in kernel.route_bodies() if may(each)]
+            names = {each.index: each.name for each in kernel.links()}
+            next_hops = {each.id: each for each in kernel.next_hops(is_own=False)}
+    except CannotAsk as error:
+        raise Stopped(str(error)) from error
+    found = []
+    for each in (read for body in bodies if (read := route_of(body, table))):
+        prefix = network_of(each.prefix)
+        if destination.subnet_of(prefix):
+            ways = tuple(ways_of(each, names, next_hops))
+            it = Holding(KernelRoute(prefix, ways), each.protocol, each.metric, each.type)
+            found.append((-prefix.prefixlen, each.metric, it))
+    return [it for _, _, it in sorted(found, key=lambda each: each[:2])]
 
 
 def kernel_route(destination: IPv4Network, table: int = MAIN) -> KernelRoute | None:

@@ -45,8 +45,9 @@ from leafrunt_host.packets import (
     lsas_of,
     read,
 )
+from leafrunt_host.places import AGE, FLUSHED, Places
 from leafrunt_host.tracing import Tracer
-from leafrunt_host.withheld import AGE, FLUSHED, Database, Withheld
+from leafrunt_host.withheld import Withheld
 
 log = logging.getLogger("leafrunt.bridge")
 NOBODY = IPv4Address(0)
@@ -114,7 +115,7 @@ class Link:
         numbers: SequenceNumbers,
         neighbor_numbers: NeighborNumbers | None = None,
         watch: Watch | None = None,
-        database: Database | None = None,
+        places: Places | None = None,
         own_lsas: OwnLsas | None = None,
         arrivals: Arrivals | None = None,
     ) -> None:
@@ -126,8 +127,7 @@ class Link:
         self.counters: Counter[str] = Counter()
         self.filter = interface.filter()
         self._watch = watch
-        self._database = Database() if database is None else database
-        self._withheld = Withheld(self._database)
+        self._withheld = Withheld(Places() if places is None else places)
         self._own_lsas = OwnLsas() if own_lsas is None else own_lsas
         self._arrivals = Arrivals() if arrivals is None else arrivals
         self.owed = Owed()
@@ -174,11 +174,22 @@ class Link:
         """The neighbor's last Hello."""
         return self._hello
 
+    def is_table_in_doubt(self, now: float) -> bool:
+        """See `OwnLsas.is_in_doubt`: of all links together."""
+        return self._own_lsas.is_in_doubt(now)
+
     def next_hop(self, router_id: IPv4Address) -> IPv4Address | None:
         """Where that neighbor's Hellos come from that authentication let pass (RFC 2328, 10.5):
         a next hop may come from no other packet."""
         with self._lock:
             return self._next_hops.get(router_id)
+
+    def why_lost(self, router_id: IPv4Address, now: float) -> str:
+        """Why a neighbor isn't Full any more."""
+        with self._lock:
+            if not self.is_usable:
+                return "; ".join(self._of_kernel()) or "the interface can't be used"
+            return self.observer.why_lost(router_id, now)
 
     def reports(self, now: float) -> list[Report]:
         """What is to be said of the interface, then of each Router ID that was seen at it."""
@@ -207,6 +218,12 @@ class Link:
         if state.mtu != self.interface.mtu:
             said.append(f"its MTU is {state.mtu} now, and was {self.interface.mtu} at the start")
         return said
+
+    @property
+    def withholds(self) -> bool:
+        """Whether there are LSAs that `routerd` can't have."""
+        with self._lock:
+            return self._withheld.is_withholding
 
     def _of_counters(self, now: float) -> list[str]:
         said = list(self._withheld.remarks(now))
@@ -256,17 +273,17 @@ class Link:
     def _refused(self, data: bytes, source: IPv4Address, why: Refused, now: float) -> None:
         self.counters[f"refused {why.refusal.value}"] += 1
         self._tracer.refused(source, why, now)
-        self._tell(self.observer.refused(data, source, why, now), now)
+        self._tell(self.observer.refused(data, source, why, now), now, logging.WARNING)
 
     def from_wire(self, data: bytes, source: IPv4Address, now: float) -> Sent:
         """An OSPF packet that came in by IP, to an address and from one that count."""
         with self._lock:
-            packet = self.authentication.judged(data, now)
+            packet = self.authentication.judged(data, source, now)
             if isinstance(packet, Refused):
                 self._refused(data, source, packet, now)
                 return Sent()
             try:
-                self._tell(self.observer.from_wire(packet, source, now), now)
+                self._tell(self.observer.from_wire(packet, source, now), now, logging.WARNING)
                 return self._taken(packet, source, now)
             except Malformed as why:
                 self.counters["refused malformed"] += 1
@@ -283,14 +300,14 @@ class Link:
         else:
             sent = Sent(to_router=[part.encode() for part in cut(packet, ROUTER_MTU)])
         if packet.type == PacketType.HELLO:
-            self._heard_hello(packet, source)
+            self._heard_hello(packet, source, now)
         self.counters["in"] += 1
         self._tracer.received(packet, source, now)
         if self._watch and self._is_neighbor(packet.router_id):
             self._watch(Side.WIRE, packet, now)
         return sent
 
-    def _heard_hello(self, packet: Packet, source: IPv4Address) -> None:
+    def _heard_hello(self, packet: Packet, source: IPv4Address, now: float) -> None:
         """Keeps the address and the last Hello of those that may be the neighbor."""
         observer = self.observer
         if not observer.agrees(packet):
@@ -298,7 +315,12 @@ class Link:
         for each in [each for each in self._next_hops if each not in observer.taken]:
             del self._next_hops[each]
         if packet.router_id in observer.taken:
+            before = self._next_hops.get(packet.router_id, source)
             self._next_hops[packet.router_id] = source
+            if before != source and self._is_neighbor(packet.router_id):
+                moved = f"{packet.router_id} sends from {source} now, and not from {before}"
+                said = f"{self.interface.name}: {moved}: packets go there"
+                self._tell([said], now, logging.WARNING)
         self._first = self._first or packet.router_id
         if self._is_neighbor(packet.router_id):
             self._hello = packet
@@ -336,12 +358,14 @@ class Link:
             return lsas
         own, number = self.observer.own, self.interface.number
         router_id = own.router_id.packed if own else b""
-        found = [
-            each
-            for each in lsas
-            if not self._own_lsas.is_early(router_id, each, now)
-            and not self._arrivals.waits(number, packet, each, now)
-        ]
+        found = []
+        for each in lsas:
+            self._own_lsas.came(router_id, each, now)
+            until = self._own_lsas.early_until(router_id, each)
+            if until > now:
+                self._arrivals.keep(number, packet, each, until)
+            elif not self._arrivals.waits(number, packet, each, now):
+                found.append(each)
         if len(found) < len(lsas):
             self.counters[EARLY] += len(lsas) - len(found)
         return found
@@ -431,10 +455,9 @@ class Link:
     def _is_to_begin_anew(self, packet: Packet, now: float) -> bool:
         """Takes note of what `routerd` has and asks for; whether it waits for what it can't have,
         or has room again for what was withheld, which is looked at with each Hello."""
+        self._withheld.sent(packet, now)
         if packet.type == PacketType.LINK_STATE_UPDATE:
-            lsas = lsas_of(packet.body)
-            self._database.sent(lsas, now)
-            self._own_lsas.sent(packet.router_id.packed, lsas, now)
+            self._own_lsas.sent(packet.router_id.packed, lsas_of(packet.body), now)
         if packet.type == PacketType.LINK_STATE_REQUEST:
             is_stuck = self._withheld.is_stuck(packet.body, now)
             self._tell_withheld(now)
@@ -472,7 +495,10 @@ class Link:
                 self._mtu = mtu_field(state.mtu)
                 self.observer.set_mtu(self._mtu)
                 self._exchange.wire_room = headers_that_fit(self._limit)
-            return self._one_way() if was_usable and not self.is_usable else Sent()
+            if self.is_usable or not was_usable:
+                return Sent()
+            self.authentication.link_lost()
+            return self._one_way()
 
     @property
     def index(self) -> int:
@@ -487,6 +513,7 @@ class Link:
     def _one_way(self) -> Sent:
         """The neighbor's last Hello, naming nobody."""
         lost = self._hello
+        self.owed.clear()
         is_told = lost is not None and self._is_neighbor(lost.router_id)
         return Sent(to_router=[farewell(lost).encode()] if lost and is_told else [])
 

@@ -3,28 +3,22 @@ from __future__ import annotations
 
 import argparse
 import json
-from collections.abc import Callable, Iterable, Iterator
+from collections.abc import Iterator
 from contextlib import contextmanager
+from typing import TYPE_CHECKING
 
-from leafrunt_host import documents
 from leafrunt_host.client import Client, list_of, own_answer
-from leafrunt_host.kernel import Json
 from leafrunt_host.statuses import Stopped
 from leafrunt_host.tables import shown
 
-DOCUMENTS: dict[str, Callable[[Json, Iterable[str]], Json]] = {
-    "table": documents.table_of,
-    "neighbors": documents.neighbors_of,
-    "interfaces": lambda status, _lines: documents.interfaces_of(status),
-    "announced": documents.announced_of,
-    "programs": documents.programs_of,
-    "counters": documents.counters_of,
-}
-"""The document of each list, made of the box's status and the lines of the console."""
+if TYPE_CHECKING:
+    from leafrunt_host.kernel import Json
 
 
 def json_answer(client: Client, line: str) -> Json:
     """A box's answer in JSON, which is one line. `Stopped` if it is no object of JSON."""
+    from leafrunt_host import documents  # (only who asks for JSON waits for it)
+
     lines = own_answer(client.ask(line))
     try:
         read = json.loads("".join(lines))
@@ -37,6 +31,8 @@ def json_answer(client: Client, line: str) -> Json:
 
 def box_status(client: Client) -> Json:
     """A box's status."""
+    from leafrunt_host import documents
+
     return documents.status_read(client.box, json_answer(client, "status json"))
 
 
@@ -56,6 +52,8 @@ def understood(box: str) -> Iterator[None]:
 
 def document_of(client: Client, kind: str, rest: list[str]) -> Json:
     """The document of a list; `rest` is what the command was given after its name."""
+    from leafrunt_host.documents import DOCUMENTS
+
     if kind not in DOCUMENTS:
         return json_answer(client, " ".join([kind, "json", *rest]))
     lines = list_of(client.ask(kind))
@@ -67,6 +65,10 @@ def listed(client: Client, words: argparse.Namespace) -> list[str]:
     """What a command prints that lists something: the words of the command line say what."""
     kind = str(words.command)
     rest = [str(words.id)] if kind == "database" and words.id else []
+    rest += [words.destination] if kind == "why" else []
+    if kind == "changes":
+        rest += [str(words.prefix)] if words.prefix else []
+        rest += ["since", words.since.replace(" ", "_")] if words.since else []
     if words.json:
         return [json.dumps(document_of(client, kind, rest), indent=2)]
     return list_of(client.ask(" ".join([kind, *rest])))

@@ -11,14 +11,16 @@ from collections import Counter
 from collections.abc import Iterable, Iterator
 from dataclasses import dataclass, field
 from importlib import import_module
-from typing import Any
+from typing import TYPE_CHECKING, Any
 
 from leafrunt_host import documents
 from leafrunt_host.client import Client, list_of
 from leafrunt_host.journal import one_line
-from leafrunt_host.kernel import Json
 from leafrunt_host.listing import box_status, understood
 from leafrunt_host.statuses import Stopped
+
+if TYPE_CHECKING:
+    from leafrunt_host.kernel import Json
 
 PACKAGE = "python3-prometheus-client"
 FORMATS = {

@@ -10,7 +10,7 @@ from dataclasses import dataclass, field
 from typing import NamedTuple
 
 from leafrunt_host.exchange import Side
-from leafrunt_host.lsas import INSTANCE
+from leafrunt_host.lsas import INSTANCE, MAX_AGE
 from leafrunt_host.packets import (
     LSA_HEADER_LENGTH,
     REQUEST_LENGTH,
@@ -22,22 +22,31 @@ from leafrunt_host.packets import (
     lsas_of,
 )
 
-KEY, INSTANCE_OF = slice(3, 12), slice(12, 18)
+KEY = slice(3, 12)
+FLUSHED = MAX_AGE.to_bytes(2, "big")
+SECONDS_AGAIN = 60.0
+"""A neighbor that hasn't sent an LSA again for so long waits for no acknowledgment: `routerd` never
+acknowledges one with a wrong checksum."""
 MOST = 20_000
 """LSAs that are kept account of each way: the oldest ones are forgotten."""
+Instance = tuple[int, int, bool]
 
 
-def is_older(one: bytes, other: bytes) -> bool:
-    """Whether one of two instances of an LSA, by sequence number and checksum, is older."""
-    return INSTANCE.unpack(one) < INSTANCE.unpack(other)
+def instance_of(header: bytes) -> Instance:
+    """The older of two instances of an LSA is the smaller one: by sequence number, checksum, and
+    whether it is flushed (RFC 2328, 13.1)."""
+    sequence, checksum = INSTANCE.unpack_from(header, 12)
+    return sequence, checksum, header[:2] == FLUSHED
 
 
 @dataclass
 class _End:
     """What one of the two waits for, by the keys of LSAs."""
 
-    unacknowledged: dict[bytes, bytes] = field(default_factory=dict)
+    unacknowledged: dict[bytes, Instance] = field(default_factory=dict)
     """The instances that it has sent."""
+    sent: dict[bytes, float] = field(default_factory=dict)
+    """When each of them was sent last."""
     asked: set[bytes] = field(default_factory=set)
 
     @property
@@ -46,7 +55,19 @@ class _End:
 
     def clear(self) -> None:
         self.unacknowledged.clear()
+        self.sent.clear()
         self.asked.clear()
+
+    def forget(self, before: float) -> None:
+        """What wasn't sent again since that moment isn't waited for."""
+        if self.unacknowledged:
+            self.sent = {
+                key: moment
+                for key, moment in self.sent.items()
+                if moment >= before and key in self.unacknowledged
+            }
+            kept = self.unacknowledged.items()
+            self.unacknowledged = {key: its for key, its in kept if key in self.sent}
 
 
 class Debts(NamedTuple):
@@ -80,17 +101,20 @@ class Owed:
     def passed(self, side: Side, packet: Packet, now: float) -> None:
         """A packet that one of them has sent."""
         was_waiting = self.is_waiting
-        self._note(side, packet)
+        self._note(side, packet, now)
         if was_waiting or self.is_waiting:
             self._waited = now
 
-    def _note(self, side: Side, packet: Packet) -> None:
+    def _note(self, side: Side, packet: Packet, now: float) -> None:
         mine, other = self._ends[side], self._ends[side.other]
         if packet.type == PacketType.LINK_STATE_UPDATE:
-            _sent(mine, other, lsas_of(packet.body))
+            _sent(mine, other, lsas_of(packet.body), now)
+        elif packet.type == PacketType.HELLO and side is Side.ROUTER:
+            other.forget(now - SECONDS_AGAIN)
         elif packet.type == PacketType.LINK_STATE_ACKNOWLEDGMENT:
             for header in chunks(packet.body, LSA_HEADER_LENGTH):
-                if other.unacknowledged.get(header[KEY]) == header[INSTANCE_OF]:
+                sent = other.unacknowledged.get(header[KEY])
+                if sent and len(header) == LSA_HEADER_LENGTH and sent == instance_of(header):
                     del other.unacknowledged[header[KEY]]
         elif packet.type == PacketType.LINK_STATE_REQUEST:
             if len(mine.asked) < MOST:
@@ -123,22 +147,28 @@ class Owed:
         )
 
     @property
+    def by_neighbor(self) -> set[bytes]:
+        """The keys of the LSAs that the router has sent and the neighbor hasn't acknowledged."""
+        return set(self._ends[Side.ROUTER].unacknowledged)
+
+    @property
     def waited(self) -> float | None:
         """When one of them owed something last."""
         return self._waited
 
 
-def _sent(mine: _End, other: _End, lsas: Iterable[bytes]) -> None:
+def _sent(mine: _End, other: _End, lsas: Iterable[bytes], now: float) -> None:
     """An Update: its LSAs are to be acknowledged, but for those that were asked for (13, 10.7); and
     they acknowledge those that the other end has sent (13, step 7a)."""
     for lsa in lsas:
-        key, instance = lsa[KEY], lsa[INSTANCE_OF]
+        key, instance = lsa[KEY], instance_of(lsa)
         theirs = other.unacknowledged.get(key)
-        if theirs is not None and not is_older(instance, theirs):
+        if theirs is not None and instance >= theirs:
             del other.unacknowledged[key]
         if key in other.asked:
             other.asked.discard(key)
         elif theirs != instance:
             if len(mine.unacknowledged) >= MOST:
-                del mine.unacknowledged[next(iter(mine.unacknowledged))]
-            mine.unacknowledged[key] = instance
+                oldest = next(iter(mine.unacknowledged))
+                del mine.unacknowledged[oldest], mine.sent[oldest]
+            mine.unacknowledged[key], mine.sent[key] = instance, now

@@ -1,8 +1,9 @@
 """Which packets count at an interface (RFC 2328, 8.1 and 8.2).
 
 A packet counts only if it was sent to AllSPFRouters, as each one is on a point-to-point link, from
-an address of the link's network, with the interface's AuType. So nobody who isn't on the link is
-heard: no router passes on what is sent to AllSPFRouters. If the neighbor's address is configured,
+an address that a host of the link's network may have (RFC 1812, 4.2.3.1: neither the network's own
+nor its broadcast address, which would become a next hop), with the interface's AuType. So nobody who
+isn't on the link is heard: no router passes on what is sent to AllSPFRouters. If the neighbor's address is configured,
 packets count from that alone, and those too that it sent to this interface's own address.
 
 The same rule stands here twice: as a classic BPF program for the kernel (socket(7),
@@ -159,6 +160,13 @@ class PacketFilter:
         network = IPv4Network(self.peer) if self.peer else self.network
         return (int(network.netmask), int(network.network_address)) if network else (0, 0)
 
+    @cached_property
+    def nobodys(self) -> tuple[int, ...]:
+        """The addresses that no neighbor has: a network of one or two has none (RFC 3021)."""
+        within = IPv4Network(self.peer) if self.peer else self.network or IPv4Network("0.0.0.0/0")
+        ends = (int(within.network_address), int(within.broadcast_address))
+        return ends if within.prefixlen < 31 else ()
+
     def is_own(self, came: Arrived) -> bool:
         """Whether this router sent it (RFC 2328, 8.2)."""
         return came.source == self._own
@@ -174,6 +182,7 @@ class PacketFilter:
             Compare(OSPF, otherwise=NONE),
             (Bpf.LOAD_WORD, 12),
             Compare(self._own, then=NONE),
+            *(Compare(each, then=stray) for each in self.nobodys),
             (Bpf.AND, mask),
             Compare(network, otherwise=stray),
             (Bpf.LOAD_WORD, 16),
@@ -198,6 +207,9 @@ class PacketFilter:
         if came.source & mask != network:
             where = f"{self.peer}" if self.peer else f"in {self.network}"
             return Refused(Refusal.SOURCE, f"{IPv4Address(came.source)} isn't {where}")
+        if came.source in self.nobodys:
+            where = f"an address that no host has in {self.network or 'any network'}"
+            return Refused(Refusal.SOURCE, f"{IPv4Address(came.source)} is {where}")
         if came.destination not in self.destinations:
             detail = f"{IPv4Address(came.destination)} in place of {ALL_SPF_ROUTERS}"
             return Refused(Refusal.DESTINATION, detail)

@@ -2,9 +2,9 @@
 Full, with the whole database, before it takes that one's place, and no neighbor notices anything.
 
 The proxy says what the neighbor would say (RFC 2328, 10.5 to 10.8 and 13): Hellos that name this
-router, Database Descriptions of all LSAs but this router's own, and the LSAs that are asked for. It
-acknowledges no LSA of this router's own: `routerd` sends those again until the neighbor itself has
-them.
+router, Database Descriptions of the LSAs that the neighbor has, but for this router's own, and the
+LSAs that are asked for. It acknowledges the instances that it has described and no others: those
+`routerd` sends again until the neighbor itself has them.
 """
 from __future__ import annotations
 
@@ -13,6 +13,7 @@ from collections.abc import Iterable, Mapping
 from ipaddress import IPv4Address
 
 from leafrunt_host.exchange import ROUTER_ROOM, WRAP
+from leafrunt_host.owed import instance_of
 from leafrunt_host.packets import (
     LSA_HEADER_LENGTH,
     REQUEST_LENGTH,
@@ -37,7 +38,7 @@ class Proxy:
     """What is answered to each packet of `routerd` at one interface."""
 
     def __init__(self, hello: Packet, lsas: Mapping[Key, bytes], own: IPv4Address) -> None:
-        """The neighbor's last Hello; the LSAs with their ages of now; this router's Router ID."""
+        """The neighbor's last Hello; its LSAs with their ages of now; this router's Router ID."""
         self._hello, self._lsas, self._own = hello, lsas, own
         self._headers = deque(
             each[:LSA_HEADER_LENGTH] for each in lsas.values() if each[ORIGIN] != own.packed
@@ -74,10 +75,14 @@ class Proxy:
         return self._packets(PacketType.LINK_STATE_UPDATE, body)
 
     def _acknowledged(self, lsas: list[bytes]) -> list[bytes]:
-        others = [each[:LSA_HEADER_LENGTH] for each in lsas if each[ORIGIN] != self._own.packed]
-        if not others:
-            return []
-        return self._packets(PacketType.LINK_STATE_ACKNOWLEDGMENT, b"".join(others))
+        known = [each[:LSA_HEADER_LENGTH] for each in lsas if self.has_described(each)]
+        return self._packets(PacketType.LINK_STATE_ACKNOWLEDGMENT, b"".join(known)) if known else []
+
+    def has_described(self, lsa: bytes) -> bool:
+        """Whether it's an instance that it acknowledges."""
+        described = self._lsas.get(lsa[KEY], b"")
+        is_it = instance_of(described) == instance_of(lsa) if described else False
+        return is_it and lsa[ORIGIN] != self._own.packed
 
     def _packets(self, kind: PacketType, body: bytes) -> list[bytes]:
         packet = Packet(kind, self._hello.router_id, self._hello.area, body)

@@ -11,7 +11,7 @@ from collections.abc import Callable, Collection
 from dataclasses import dataclass, replace
 from ipaddress import IPv4Network
 
-from leafrunt_host.announcements import MEANINGS, OUT_OF_MEMORY
+from leafrunt_host.meanings import MEANINGS, OUT_OF_MEMORY
 from leafrunt_host.clock import TOLD, moment_text
 from leafrunt_host.kernel import Json
 from leafrunt_host.observing import Limiter

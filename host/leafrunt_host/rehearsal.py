@@ -6,19 +6,32 @@ Its own LSAs have to follow those that the one before originated: it is given th
 neighbor still had them, and so originates its own with higher sequence numbers, and flushes what it
 doesn't originate any more (RFC 2328, 13.4). Two instances of its router-LSA are five seconds apart
 (MinLSInterval), so all of this takes some six.
+
+Of the others' it is given those once all neighbors are Full that one of them hasn't acknowledged to
+the running one: so it owes them too (13.3), and sends them until they are acknowledged.
 """
 from __future__ import annotations
 
 import selectors
 import threading
 import time
-from collections import deque
-from collections.abc import Callable, Iterable, Mapping
+from collections.abc import Callable, Container, Iterable, Mapping
 from contextlib import suppress
+from dataclasses import replace
 from ipaddress import IPv4Address
 
-from leafrunt_host.lsas import INSTANCE, MAX_AGE, LinkType, LsType, RouterBody, body_of
-from leafrunt_host.packets import Malformed, Packet, PacketType, lsas_of, read
+from leafrunt_host.lsas import MAX_AGE, LinkType, LsType, RouterBody, body_of
+from leafrunt_host.owed import Owed, instance_of
+from leafrunt_host.packets import (
+    ROUTER_MTU,
+    Hello,
+    Malformed,
+    Packet,
+    PacketType,
+    cut,
+    lsas_of,
+    read,
+)
 from leafrunt_host.proxy import KEY, ORIGIN, Key, Proxy
 from leafrunt_host.router import RouterGone
 from leafrunt_host.starting import Fresh
@@ -26,7 +39,7 @@ from leafrunt_host.status import neighbors_of
 from leafrunt_host.statuses import Stopped
 from leafrunt_host.topology import Topology
 
-SECONDS_TO_FULL, SECONDS_TO_ORIGINATE, SECONDS_TO_FIND = 40.0, 30.0, 60.0
+SECONDS_TO_FULL, SECONDS_TO_ORIGINATE, SECONDS_TO_FIND, SECONDS_TO_OWE = 40.0, 30.0, 60.0, 20.0
 """At most: a busy machine with thousands of LSAs takes long."""
 TURN = 0.05
 LOOKED_EACH = 0.2
@@ -35,23 +48,19 @@ CAUGHT_UP_EACH = 1.5
 """Seconds: above MinLSArrival."""
 LARGEST = 65_535
 OLDEST = MAX_AGE - 1
-MOST_SENT = 500
-"""Updates of an interface that are kept: what is left out it sends again."""
 PAUSE_AFTER, PAUSE = 8, 0.005
 """Datagrams at once, and seconds after them: its socket's buffer holds no more."""
 
 
-def of_now(topology: Topology) -> dict[Key, bytes]:
-    """The LSAs with their ages of now."""
+def of_now(topology: Topology, flushed: Container[Key] = ()) -> dict[Key, bytes]:
+    """The LSAs with their ages of now, and those of these keys that are flushed, as if they were to
+    run out at once."""
+    entries, now = topology.all_entries()
     return {
-        entry.data[KEY]: min(header.age, OLDEST).to_bytes(2, "big") + entry.data[2:]
-        for header, entry in topology.entries()
+        key: min(entry.age_at(now), OLDEST).to_bytes(2, "big") + entry.data[2:]
+        for key, entry in entries
+        if entry.age_at(now) < MAX_AGE or key in flushed
     }
-
-
-def instance_of(lsa: bytes) -> tuple[int, ...]:
-    """Which of two instances is newer: the larger one."""
-    return INSTANCE.unpack_from(lsa, 12)
 
 
 def prefixes_of(lines: Iterable[str]) -> set[str]:
@@ -70,21 +79,32 @@ class Rehearsal:
         topology: Topology,
         own: IPv4Address,
         ending: threading.Event,
+        owed: Mapping[int, Owed],
     ) -> None:
-        """`hellos` are the neighbors' last ones, by the numbers of its interfaces."""
+        """`hellos` are the neighbors' last ones, by the numbers of its interfaces, and `owed` what
+        the running one and they owe each other."""
         self._fresh, self._topology, self._own, self._ending = fresh, topology, own, ending
-        self._given = of_now(topology)
+        self._owed = {number: owed[number] for number in hellos}
+        late = set[Key]().union(*self._owed_by_neighbors().values())
+        lsas = of_now(topology, late)
+        late.update(*self._owed_by_neighbors().values())
+        self._given = {
+            key: each
+            for key, each in lsas.items()
+            if key not in late or each[ORIGIN] == own.packed
+        }
         self._proxies = {
             number: Proxy(hello, self._given, own) for number, hello in hellos.items()
         }
-        self.sent: dict[int, deque[bytes]] = {
-            number: deque(maxlen=MOST_SENT) for number in fresh.udp
-        }
-        """What the neighbors have to be sent when it takes the other's place, by its interfaces."""
+        self._given_at: dict[Key, int] = {}
+        """At which interface it was given an LSA, which it owes to the others' neighbors."""
+        self.sent: dict[int, dict[Key, bytes]] = {number: {} for number in fresh.udp}
+        """LSAs that it has sent and no proxy acknowledges, by its interfaces."""
         self._hellos: dict[int, bytes] = {}
         self._router_lsa = b""
-        self._last: tuple[int, list[bytes]] | None = None
-        """What it was given when it caught up last, and at which interface."""
+        self._caught_up_at = time.monotonic()
+        self._last: dict[int, list[bytes]] = {}
+        """What it was given when it caught up last, by its interfaces."""
         self._waiting = selectors.DefaultSelector()
         for number, udp in fresh.udp.items():
             self._waiting.register(udp, selectors.EVENT_READ, number)
@@ -102,6 +122,7 @@ class Rehearsal:
         first = next(iter(self._proxies))
         for each in self.sent.values():
             each.clear()
+        self.catch_up()
         self._give(first, self._proxies[first].update(own))
         if not self._until(self._is_originated, SECONDS_TO_ORIGINATE):
             raise Stopped(
@@ -110,17 +131,12 @@ class Rehearsal:
 
     def find(self, prefixes: Callable[[], set[str]]) -> None:
         """Until it has routes to all destinations that the running one has, which may change."""
-        caught_up, missing = time.monotonic(), set[str]()
+        missing = set[str]()
 
         def has_all() -> bool:
-            nonlocal caught_up, missing
+            nonlocal missing
             missing = prefixes() - prefixes_of(self._ask("table"))
-            if not missing:
-                return True
-            if time.monotonic() - caught_up >= CAUGHT_UP_EACH:
-                self.catch_up()
-                caught_up = time.monotonic()
-            return False
+            return not missing or self._caught_up_in_vain()
 
         if not self._until(has_all, SECONDS_TO_FIND):
             first = ", ".join(sorted(missing)[:MOST_NAMED])
@@ -128,12 +144,35 @@ class Rehearsal:
                 f"the new routerd doesn't find {len(missing)} of the routes that the running one has: {first}"
             )
 
+    def owe(self) -> None:
+        """Until it owes each neighbor what that hasn't acknowledged."""
+        if not self._until(lambda: not self.unowed() or self._caught_up_in_vain(), SECONDS_TO_OWE):
+            raise Stopped(f"a neighbor hasn't acknowledged {len(self.unowed())} LSAs: try again")
+
+    def unowed(self) -> list[Key]:
+        """What a neighbor hasn't acknowledged and isn't owed by the new one, since it got that from
+        this neighbor itself: no other neighbor had it."""
+        return [
+            key
+            for number, owed in self._owed_by_neighbors().items()
+            for key in owed
+            if key[-4:] != self._own.packed and self._given_at.get(key, number) == number
+        ]
+
+    def _caught_up_in_vain(self) -> bool:
+        """False, after it was given what has changed since the last time, if that is due."""
+        if time.monotonic() - self._caught_up_at >= CAUGHT_UP_EACH:
+            self.catch_up()
+        return False
+
     def catch_up(self) -> None:
-        """Gives it what has changed since; what is gone, it flushes. Nothing of this is
-        acknowledged: it sends it to all neighbors, until they have it."""
+        """Gives it what has changed since, or wasn't acknowledged then; what is gone, it flushes.
+        Nothing of this is acknowledged: it sends it to all other neighbors, until they have it."""
+        self._caught_up_at = time.monotonic()
         if not self._proxies:
             return
-        now, before = of_now(self._topology), self._given
+        owed, before = self._owed_by_neighbors(), self._given
+        now = of_now(self._topology, set[Key]().union(*owed.values()) - before.keys())
         changed = [
             each
             for key, each in now.items()
@@ -146,15 +185,27 @@ class Rehearsal:
             for key, each in before.items()
             if key not in now and each[ORIGIN] != self._own.packed
         ]
-        first = next(iter(self._proxies))
-        self._given, self._last = now, (first, self._proxies[first].update(changed + gone))
-        self._give(*self._last)
+        self._given, given = now, dict[int, list[bytes]]()
+        for each in changed + gone:
+            given.setdefault(self._source_of(each[KEY], owed), []).append(each)
+        self._last = {number: self._proxies[number].update(lsas) for number, lsas in given.items()}
+        self.give_again()
+
+    def _owed_by_neighbors(self) -> dict[int, set[Key]]:
+        """What they haven't acknowledged to the running one, by the interfaces."""
+        return {number: each.by_neighbor for number, each in self._owed.items()}
+
+    def _source_of(self, key: Key, owed: Mapping[int, set[Key]]) -> int:
+        """The interface at which it is given: of a neighbor that has it, if there is one."""
+        has = (number for number in owed if key not in owed[number])
+        self._given_at[key] = next(has, next(iter(owed)))
+        return self._given_at[key]
 
     def give_again(self) -> None:
         """The same once more, some seconds after the last time: it takes no LSA within a second of
         the last one (MinLSArrival), and a neighbor would send it again."""
-        if self._last:
-            self._give(*self._last)
+        for number, datagrams in self._last.items():
+            self._give(number, datagrams)
 
     def close(self) -> None:
         """The sockets stay as they are."""
@@ -165,14 +216,34 @@ class Rehearsal:
         """The interfaces whose neighbor is played by a proxy."""
         return set(self._proxies)
 
-    @property
-    def last_packets(self) -> dict[int, list[bytes]]:
-        """What is to be sent on the wire first: its Updates, and then a Hello."""
+    def last_packets(self, full: Container[int]) -> dict[int, list[bytes]]:
+        """What is to be sent on the wire first: LSAs of its own and those that the neighbor hasn't
+        acknowledged, in Updates, and then a Hello, which names the neighbors that are Full."""
+        owed = self._owed_by_neighbors()
         return {
-            number: [*self.sent[number], self._hellos[number]]
-            for number in self.sent
-            if number in self._hellos
+            number: [
+                *self._updates(number, owed.get(number, ())),
+                self._naming(number) if number in full else hello,
+            ]
+            for number, hello in self._hellos.items()
         }
+
+    def _updates(self, number: int, owed: Container[Key]) -> list[bytes]:
+        sent = self.sent[number].items()
+        lsas = [each for key, each in sent if each[ORIGIN] == self._own.packed or key in owed]
+        body, hello = len(lsas).to_bytes(4, "big") + b"".join(lsas), read(self._hellos[number])
+        update = replace(hello, type=PacketType.LINK_STATE_UPDATE, body=body)
+        return [each.encode() for each in cut(update, ROUTER_MTU)] if lsas else []
+
+    def _naming(self, number: int) -> bytes:
+        """Its last Hello there, which may be older than the neighbor's first: without its name the
+        neighbor would go to Init (RFC 2328, 10.5, 1-WayReceived)."""
+        packet, neighbor = read(self._hellos[number]), self._proxies[number].router_id
+        hello = Hello.decode(packet.body)
+        if neighbor in hello.neighbors:
+            return self._hellos[number]
+        named = replace(hello, neighbors=(*hello.neighbors, neighbor))
+        return replace(packet, body=named.encode()).encode()
 
     # -- its packets
 
@@ -205,18 +276,18 @@ class Rehearsal:
             packet = read(data)
             if packet.type == PacketType.HELLO:
                 self._hellos[number] = data
-            if packet.type == PacketType.LINK_STATE_UPDATE:
-                self._note(number, data, lsas_of(packet.body))
             proxy = self._proxies.get(number)
+            if packet.type == PacketType.LINK_STATE_UPDATE:
+                self._note(number, lsas_of(packet.body), proxy)
             self._give(number, proxy.heard(packet) if proxy else [])
 
-    def _note(self, number: int, data: bytes, lsas: list[bytes]) -> None:
-        """Keeps what it has originated itself."""
-        own = [each for each in lsas if each[ORIGIN] == self._own.packed]
-        if own:
-            self.sent[number].append(data)
-        for each in own:
-            if each[3] == LsType.ROUTER:
+    def _note(self, number: int, lsas: list[bytes], proxy: Proxy | None) -> None:
+        """Keeps what it has originated itself, and what the neighbor may lack."""
+        for each in lsas:
+            is_own = each[ORIGIN] == self._own.packed
+            if is_own or (proxy and not proxy.has_described(each)):
+                self.sent[number][each[KEY]] = each
+            if is_own and each[3] == LsType.ROUTER:
                 self._router_lsa = each
 
     def _give(self, number: int, datagrams: list[bytes]) -> None:

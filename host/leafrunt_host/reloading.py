@@ -10,6 +10,7 @@ import logging
 import re
 import socket
 import threading
+import time
 from collections.abc import Callable
 from contextlib import ExitStack
 from dataclasses import dataclass, field, replace
@@ -18,6 +19,7 @@ from pathlib import Path
 from leafrunt_host.announcements import Announcements
 from leafrunt_host.announcer import Announcer
 from leafrunt_host.bridge import CannotOpen
+from leafrunt_host.clock import moment_text
 from leafrunt_host.configuration import Configuration, InterfaceSettings, Program
 from leafrunt_host.desk import Desk
 from leafrunt_host.destinations import Owner
@@ -27,6 +29,7 @@ from leafrunt_host.differences import (
     for_routerd,
     in_order_of,
     of_bridge,
+    would_change,
 )
 from leafrunt_host.forwarding import CannotKeep, KernelTable
 from leafrunt_host.handover import Handover, bfd_of, follow_numbers
@@ -36,12 +39,20 @@ from leafrunt_host.kernel_settings import KernelSettings
 from leafrunt_host.link import Link
 from leafrunt_host.redistributor import Redistributor, redistributor_of
 from leafrunt_host.rooms import Room
+from leafrunt_host.router import RouterGone
 from leafrunt_host.sockets import LOOPBACK
 from leafrunt_host.starting import Parts, interface_of
 from leafrunt_host.status import Known
 from leafrunt_host.statuses import Status, Stopped
 
 log = logging.getLogger("leafrunt.reload")
+SAME = "nothing differs"
+NEEDS_START = "needs a new start: `leafrunt down`, then `leafrunt up`"
+KEEP = "`leafrunt reload --keep` keeps it"
+NOT_CONFIRMED = (
+    "nobody confirmed the reload, so the configuration before it stands again since {}; the file has "
+    "another one"
+)
 SECONDS_TO_FILL = 10.0
 """How long a table may take to get its first routes."""
 TAKEN = re.compile(r": (attached|detached) \w+|, stays$")
@@ -80,30 +91,111 @@ class Reloader:
     desk: Desk
     handover: Handover
     _one_at_a_time: threading.Lock = field(default_factory=threading.Lock)
+    _before: Configuration | None = None
+    """The configuration before a reload that waits to be confirmed."""
+    _taking_back: threading.Timer | None = None
 
     def reload(self, waits: bool = False) -> list[str]:
         """A line for each thing that was done. `Mistaken` or `Stopped` if the configuration is
         wrong, or can't be taken over now: then all is as it was. Another reload that is under way
         is waited for, or this one is refused."""
+        if self._before:
+            raise Stopped(f"a reload waits to be confirmed: {KEEP}", Status.REFUSED)
         if not self._one_at_a_time.acquire(blocking=waits):
             raise Stopped("another reload is under way: try again", Status.REFUSED)
         try:
             said = self._taken_over(self.read(self.known.configuration.path))
+            self.known.not_reloaded = None
         except (CannotOpen, CannotKeep) as why:
-            raise Stopped(f"nothing is changed: {why}") from why
+            raise self._refused(Stopped(f"nothing is changed: {why}")) from why
+        except Stopped as why:
+            raise self._refused(why) from why.__cause__
         finally:
             self._one_at_a_time.release()
         for each in said:
             log.info("%s", each)
+        self._remember(said)
         return said
+
+    def _remember(self, said: list[str]) -> None:
+        """Among what changed, if something did."""
+        if said != [SAME]:
+            more = f" and {len(said) - 1} more" if len(said) > 1 else ""
+            self.known.history.note("box", "reload", None, f"{said[0]}{more}")
+
+    def dry_run(self) -> list[str]:
+        """What a reload would do now, a line for each thing; nothing is changed. `Stopped` where one
+        would be refused."""
+        old = self.known.configuration
+        new = in_order_of(self.read(old.path), old)
+        obstacles = list(another_router(old, new))
+        if obstacles:
+            raise Stopped("\n".join(f"{each}: {NEEDS_START}" for each in obstacles), Status.REFUSED)
+        before = self.room.claimed
+        self.room.claim(claims_of(new))
+        self.room.give_back(self.room.claimed - before)
+        return list(would_change(old, new, self.known.by_hand)) or [SAME]
+
+    def reload_until_confirmed(self, seconds: float) -> list[str]:
+        """Reloads, and takes that back after so long unless `keep` comes before (BIRD: `configure
+        timeout`)."""
+        before = self.known.configuration
+        said = self.reload()
+        if self.known.configuration == before:
+            return said
+        self._before = before
+        self._taking_back = threading.Timer(seconds, self._take_back)
+        self._taking_back.daemon = True
+        self._taking_back.start()
+        until = moment_text(time.time() + seconds)
+        self.known.unconfirmed = f"the last reload is taken back at {until}: {KEEP}"
+        return [*said, self.known.unconfirmed]
+
+    def keep(self) -> list[str]:
+        """The reload that waits to be confirmed stays."""
+        with self._one_at_a_time:
+            if self._before is None or self._taking_back is None:
+                raise Stopped("no reload waits to be confirmed", Status.REFUSED)
+            self._taking_back.cancel()
+            self._before = self.known.unconfirmed = None
+        return ["the reload is confirmed"]
+
+    def _take_back(self) -> None:
+        """Nobody confirmed it: the configuration before stands again."""
+        said = NOT_CONFIRMED.format(moment_text(time.time()))
+        with self._one_at_a_time:
+            before, self._before = self._before, None
+            if before is None:
+                return
+            try:
+                taken = self._taken_over(before)
+                for each in taken:
+                    log.info("%s", each)
+                self._remember(taken)
+            except (CannotOpen, CannotKeep, RouterGone, Stopped) as why:
+                said = f"nobody confirmed the reload, and it can't be taken back: {why}"
+            self.known.unconfirmed = None
+        self.known.not_reloaded = said
+        log.warning("%s", said)
+
+    def _refused(self, why: Stopped) -> Stopped:
+        """It stays in the log and in `status` until another reload is done."""
+        first, *more = str(why).splitlines() or [""]
+        several = f" (and {len(more)} more: `leafrunt check`)" if more else ""
+        self.known.not_reloaded = (
+            f"the last reload was refused at {moment_text(time.time())}: {first}{several}"
+        )
+        log.warning("not reloaded: %s%s", first, several)
+        return why
 
     def _taken_over(self, new: Configuration) -> list[str]:
         old = self.known.configuration
+        if not new.interfaces:
+            raise Stopped("none of its interfaces is there", Status.REFUSED)
         new = in_order_of(new, old)
         obstacles = list(another_router(old, new))
         if obstacles:
-            needs = "needs a new start: `leafrunt down`, then `leafrunt up`"
-            raise Stopped("\n".join(f"{each}: {needs}" for each in obstacles), Status.REFUSED)
+            raise Stopped("\n".join(f"{each}: {NEEDS_START}" for each in obstacles), Status.REFUSED)
         anew = list(for_routerd(old, new))
         with ExitStack() as undone:
             before = self.room.claimed
@@ -123,11 +215,12 @@ class Reloader:
         self.room.give_back(self.room.claimed.difference(claims_of(new)))
         said += self._announced(old, new)
         said += ["counters: other names"] * (old.counters != new.counters)
+        said += [f"{each}: is awaited" for each in new.awaited if each not in old.awaited]
         if old.log_level != new.log_level:
             set_level(new.log_level)
             said.append(f"log_level: {new.log_level}")
         said += [] if anew else self._programs(old, new)
-        return anew + said or ["nothing differs"]
+        return anew + said or [SAME]
 
     def _handed_over(self, old: Configuration, new: Configuration) -> list[str]:
         """Another `routerd` takes over; what of the rest it has read with that."""
@@ -136,7 +229,7 @@ class Reloader:
         said: list[str] = []
 
         def programs() -> dict[str, str]:
-            found = {hook: path for hook, (path, _) in self.known.programs.items()}
+            found = {hook: it.object for hook, it in self.known.programs.items()}
             for hook in sorted(before | after):
                 program = after.get(hook)
                 if program == before.get(hook) or hook in self.known.by_hand:
@@ -275,10 +368,10 @@ class Reloader:
 
     def _program(self, hook: str, program: Program | None) -> str:
         if hook in self.known.by_hand:
-            path, _ = self.known.programs[hook]
+            path = self.known.programs[hook].object
             return f"{hook}: {path}, which was attached by hand, stays"
         line = f"attach {program.object}" if program else f"detach {hook}"
-        said = self.desk.passed_on(line, is_by_hand=False)[0]
+        said = self.desk.passed_on(line)[0]
         return f"{program.object if program else hook}: {said}"
 
 

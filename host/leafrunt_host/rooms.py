@@ -5,6 +5,7 @@ import errno
 import fcntl
 import logging
 import os
+import re
 import shutil
 import socket
 import stat
@@ -17,8 +18,7 @@ from typing import TextIO
 from leafrunt_host.statuses import Status, Stopped
 
 log = logging.getLogger("leafrunt.room")
-RUN = Path("/run/leafrunt")
-STATE = Path("/var/lib/leafrunt")
+BOX_NAME = re.compile(r"[A-Za-z0-9][A-Za-z0-9._-]{0,63}")
 CLAIMS = ".claims"
 """In the folder of running boxes: no box has such a name."""
 NAMESPACE = "/proc/self/ns/net"
@@ -107,6 +107,8 @@ class Room:
     _claims: dict[str, TextIO] = field(default_factory=dict)
     _lent: Path | None = None
     _has_state: bool = True
+    fault: str = ""
+    """Why there is no folder for what is kept over a restart."""
 
     @property
     def socket(self) -> Path:
@@ -187,7 +189,7 @@ class Room:
             if why.status == Status.REFUSED:
                 raise
             log.warning("%s: sequence numbers aren't kept over a restart", why)
-            self._has_state = False
+            self._has_state, self.fault = False, str(why)
         self._lock, holder = locked(self.run / "lock", f"{os.getpid()}\n")
         if self._lock is None:
             process = f" (process {holder})" if holder.isdigit() else ""

@@ -7,9 +7,12 @@ import subprocess
 import threading
 import time
 from collections.abc import Callable
+from concurrent.futures import Future
+from concurrent.futures import TimeoutError as WaitedFor
 from contextlib import AbstractContextManager, nullcontext
 from dataclasses import dataclass
 from pathlib import Path
+from typing import NamedTuple, TypeVar
 
 from leafrunt_host.answers import Answers
 from leafrunt_host.isolation import ENVIRONMENT, World
@@ -23,7 +26,15 @@ NO_LISTS = re.compile(rb"unknown|out of memory|refused \d+")
 ATTACH = "attach "
 LONGEST_LINE = 4096
 SECONDS_TO_ANSWER = 120
+"""A program may have to be verified first, and no other line needs as long."""
+LEAST_PATIENCE = 20.0
+"""Seconds for which an answer to any other line is waited for, at the least."""
 SECONDS_TO_END = 30
+SECONDS_TO_END_SILENT = 3.0
+"""The same of one that has been asked in vain."""
+SECONDS_TO_HEAR = 1.0
+"""Whoever looks at a box waits so long for `routerd`."""
+T = TypeVar("T")
 
 
 def started(world: World, program: Path, configuration: Path) -> subprocess.Popen[bytes]:
@@ -45,6 +56,20 @@ def started(world: World, program: Path, configuration: Path) -> subprocess.Pope
 
 class RouterGone(Exception):
     """`routerd` has ended, or doesn't answer any more."""
+
+
+class RouterSilent(Exception):
+    """`routerd` doesn't answer now."""
+
+
+class Unanswered(NamedTuple):
+    """A line that `routerd` was given and hasn't answered, and for how many seconds."""
+
+    line: str
+    seconds: float
+
+    def __str__(self) -> str:
+        return f"routerd hasn't answered `{self.line}` for {self.seconds:.0f} s"
 
 
 @dataclass(frozen=True)
@@ -71,12 +96,16 @@ class Router:
         told: Callable[[str], None] = lambda line: None,
         world: World | None = None,
         lends: Callable[[str], AbstractContextManager[str]] = nullcontext,
+        patience: float = LEAST_PATIENCE,
     ) -> None:
-        """`lends` makes an object file readable there, and says by which name."""
-        self._told, self._lends = told, lends
+        """`lends` makes an object file readable there, and says by which name. An answer is waited
+        for as long as `patience`."""
+        self._told, self._lends, self._patience = told, lends, patience
         world = world or World(None)
         self._one_at_a_time = threading.Lock()
         self._is_gone = False
+        self._asking: tuple[str, float] | None = None
+        """The line that waits for its answer, and since when."""
         self._ran: subprocess.Popen[bytes] = world.do(
             lambda: started(world, program, configuration)
         )
@@ -111,12 +140,12 @@ class Router:
         """Whether it was given up, since it didn't answer."""
         return self._is_gone and self._ran.poll() is None
 
-    def ask(self, line: str, seconds: float = SECONDS_TO_ANSWER) -> list[str]:
+    def ask(self, line: str, seconds: float | None = None) -> list[str]:
         """The lines of the answer as they are; `end`, which closes a list, is one of them."""
         if line.startswith(ATTACH):
             with self._lends(line.removeprefix(ATTACH)) as name:
-                return self._lines(ATTACH + name, seconds)
-        return self._lines(line, seconds)
+                return self._lines(ATTACH + name, seconds or SECONDS_TO_ANSWER)
+        return self._lines(line, seconds or self._patience)
 
     def _lines(self, line: str, seconds: float) -> list[str]:
         first, more = self._asked(line, seconds)
@@ -133,8 +162,44 @@ class Router:
         with self._one_at_a_time:
             if self._is_gone:
                 raise RouterGone("routerd has ended")
-            self._write(data + b"\n")
-            return self._answer(line in LISTS, seconds)
+            self._asking = line, time.monotonic()
+            try:
+                self._write(data + b"\n")
+                return self._answer(line in LISTS, seconds)
+            finally:
+                self._asking = None
+
+    def unanswered(self, seconds: float = SECONDS_TO_HEAR) -> Unanswered | None:
+        """The line that it hasn't answered for so long; None if there is none."""
+        asking = self._asking
+        since = time.monotonic() - asking[1] if asking else 0.0
+        return Unanswered(asking[0], since) if asking and since >= seconds else None
+
+    def look(self) -> None:
+        """`RouterSilent` if it doesn't answer what it was asked; a program's verification may take
+        its time."""
+        it = self.unanswered()
+        if it and not it.line.startswith(ATTACH):
+            raise RouterSilent(str(it))
+
+    def soon(self, ask: Callable[[], T], seconds: float = SECONDS_TO_HEAR) -> T:
+        """What `ask` brings, which asks `routerd`. `RouterSilent` if that takes longer, or another
+        line has waited so long already; the answer is then waited for in a thread of its own."""
+        self.look()
+        answer: Future[T] = Future()
+
+        def work() -> None:
+            try:
+                answer.set_result(ask())
+            except BaseException as error:
+                answer.set_exception(error)
+
+        threading.Thread(target=work, name="asker", daemon=True).start()
+        try:
+            return answer.result(seconds)
+        except WaitedFor:
+            it = self.unanswered(0) or Unanswered("a line", seconds)
+            raise RouterSilent(str(it)) from None
 
     def _answer(self, is_list: bool, seconds: float) -> tuple[bytes, bytes | None]:
         try:
@@ -144,7 +209,7 @@ class Router:
             return first, self._answers.up_to(b"end", seconds)
         except TimeoutError:
             self._is_gone = True
-            raise RouterGone(f"routerd has not answered for {seconds} seconds") from None
+            raise RouterGone(f"routerd has not answered for {seconds:g} seconds") from None
         except EOFError:
             self._is_gone = True
             raise RouterGone("routerd has ended") from None
@@ -164,7 +229,7 @@ class Router:
 
     def ask_bytes(self, line: str) -> bytes | None:
         """The same as it came, each line with its line feed: a list may have thousands."""
-        first, more = self._asked(line, SECONDS_TO_ANSWER)
+        first, more = self._asked(line, self._patience)
         if more is None:
             return b"" if first == b"end" else None
         return first + b"\n" + more
@@ -172,6 +237,8 @@ class Router:
     def quit(self, seconds: float = SECONDS_TO_END) -> Ended:
         """Ends it, if it hasn't ended, and waits for it. One that doesn't end by itself, or doesn't
         answer whoever waits for that, is killed, and that is logged."""
+        if self.unanswered() or self.is_silent():
+            seconds = min(seconds, SECONDS_TO_END_SILENT)
         if not self._one_at_a_time.acquire(timeout=seconds):
             log.error("routerd hasn't answered for %d seconds: it is killed", seconds)
             self._ran.kill()

@@ -8,6 +8,7 @@ from __future__ import annotations
 
 import logging
 import os
+import pwd
 import socket
 import struct
 import threading
@@ -25,6 +26,7 @@ MOST_CLIENTS = 32
 SECONDS_TO_READ = 30
 """A client that takes nothing of its answer for so long is let go."""
 CREDENTIALS = struct.Struct("3i")
+NO_LOGIN = 0xFFFF_FFFF
 LEAVING = ("quit", "exit")
 """Lines that end a client's connection, and nothing else."""
 
@@ -36,6 +38,8 @@ class Asked:
 
     line: str
     descriptor: int | None = None
+    by: str = "somebody"
+    """Who asks, in words."""
 
 
 @dataclass
@@ -53,6 +57,24 @@ class _Client:
 
     asked: float
     is_answered: bool = False
+
+
+def name_of(user: int) -> str:
+    """A user's name, or the number that has none."""
+    try:
+        return pwd.getpwuid(user).pw_name
+    except KeyError:
+        return str(user)
+
+
+def who_is(process: int, user: int, processes: Path = Path("/proc")) -> str:
+    """A user by the name; and who logged in, if that is another one (pam_loginuid(8))."""
+    try:
+        login = int((processes / str(process) / "loginuid").read_text())
+    except (OSError, ValueError):
+        login = NO_LOGIN
+    name = name_of(user)
+    return name if login in (user, NO_LOGIN) else f"{name_of(login)} as {name}"
 
 
 def encoded(lines: list[str]) -> bytes:
@@ -92,7 +114,10 @@ class Server:
                     log.warning("console: no client can come in: %s", error.strerror)
                 continue
             try:
-                why = self._why_not(client)
+                process, user, _ = CREDENTIALS.unpack(
+                    client.getsockopt(socket.SOL_SOCKET, socket.SO_PEERCRED, CREDENTIALS.size)
+                )
+                why = self._why_not(client, user)
             except OSError as error:
                 why = str(error.strerror)
             if why:
@@ -100,13 +125,13 @@ class Server:
                 self._send(client, [f"refused: {why}"])
                 client.close()
                 continue
-            self._let_in(client)
+            self._let_in(client, who_is(process, user))
 
-    def _let_in(self, client: socket.socket) -> None:
+    def _let_in(self, client: socket.socket, by: str) -> None:
         """Gives a client a thread of its own."""
         with self._changing:
             self._clients[client] = _Client(time.monotonic())
-        thread = threading.Thread(target=self._serve, args=(client,), name="client", daemon=True)
+        thread = threading.Thread(target=self._serve, args=(client, by), name="client", daemon=True)
         try:
             thread.start()
         except RuntimeError as error:
@@ -115,12 +140,9 @@ class Server:
                 self._clients.pop(client, None)
             client.close()
 
-    def _why_not(self, client: socket.socket) -> str | None:
+    def _why_not(self, client: socket.socket, user: int) -> str | None:
         """Beside the socket's mode: root and the box's own user may come in, nobody else."""
         client.settimeout(SECONDS_TO_READ)
-        _, user, _ = CREDENTIALS.unpack(
-            client.getsockopt(socket.SOL_SOCKET, socket.SO_PEERCRED, CREDENTIALS.size)
-        )
         if user not in (0, os.geteuid()):
             return f"the console is its owner's alone, and this is the user {user}"
         with self._changing:
@@ -149,7 +171,7 @@ class Server:
             if it:
                 it.asked, it.is_answered = time.monotonic(), is_answered
 
-    def _serve(self, client: socket.socket) -> None:
+    def _serve(self, client: socket.socket, by: str) -> None:
         """Answers a client until it leaves."""
         reader = _Lines(client)
         try:
@@ -158,6 +180,7 @@ class Server:
                 if asked is None or asked.line in LEAVING:
                     break
                 self._note(client, is_answered=True)
+                asked.by = by
                 answer = self._answer(asked)
                 reader.close(asked)
                 if answer.stays:

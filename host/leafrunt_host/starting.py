@@ -16,14 +16,14 @@ from leafrunt_host.authentication import NeighborNumbers, SequenceNumbers
 from leafrunt_host.bridge import Bridge, CannotOpen
 from leafrunt_host.configuration import Configuration, InterfaceSettings
 from leafrunt_host.holding import Holding
-from leafrunt_host.isolation import World
+from leafrunt_host.isolation import OF_USERS, World
 from leafrunt_host.link import Interface, Link, Watch
 from leafrunt_host.own_lsas import OwnLsas
+from leafrunt_host.places import NO_EXTERNALS, Places
 from leafrunt_host.rooms import Room
-from leafrunt_host.router import Router, RouterGone
+from leafrunt_host.router import LEAST_PATIENCE, Router, RouterGone
 from leafrunt_host.sockets import LOOPBACK, udp_socket
 from leafrunt_host.statuses import Stopped
-from leafrunt_host.withheld import NO_EXTERNALS, Database
 
 log = logging.getLogger("leafrunt.box")
 SECONDS_TO_START = 20
@@ -63,6 +63,12 @@ def sink(port: int) -> socket.socket:
         one.close()
         raise CannotOpen(f"UDP port {port} of {LOOPBACK} can't be had: {error.strerror}") from error
     return one
+
+
+def patience_of(configuration: Configuration) -> float:
+    """For how long `routerd` may answer nothing: after RouterDeadInterval neighbors drop it."""
+    dead = [each.dead_interval for each in configuration.interfaces if not each.passive]
+    return max(LEAST_PATIENCE, min(dead, default=0.0))
 
 
 def interface_of(number: int, each: InterfaceSettings, ports: tuple[int, int]) -> Interface:
@@ -175,7 +181,7 @@ class Starter:
         self, world: World, configuration: Configuration, told: Callable[[str], None]
     ) -> Parts:
         ports, arrivals = ports_of(world, configuration), Arrivals()
-        shared = Database(no_externals=NO_EXTERNALS), OwnLsas(time.monotonic()), arrivals
+        shared = Places(no_externals=NO_EXTERNALS), OwnLsas(time.monotonic()), arrivals
 
         def link_of(interface: Interface) -> Link:
             numbers = self._numbers, self._neighbor_numbers
@@ -218,9 +224,12 @@ class Starter:
             raise Stopped(f"cannot write {room.configuration}: {error.strerror}") from error
         try:
             lends = room.lent_object if world.account else nullcontext
-            router = Router(program, path, told, world, lends)
+            router = Router(program, path, told, world, lends, patience_of(configuration))
         except OSError as error:
-            raise Stopped(f"{program} can't be run: {error.strerror}") from error
+            needs = ""
+            if error.errno == errno.EPERM and world.account:
+                needs = f" (to run it as the user {world.account.name}, {OF_USERS} are needed)"
+            raise Stopped(f"{program} can't be run: {error.strerror}{needs}") from error
         try:
             if router.ask("neighbors", SECONDS_TO_START)[-1] == "end":
                 return router

@@ -3,8 +3,8 @@ from __future__ import annotations
 
 import re
 import time
-from collections.abc import Mapping
-from dataclasses import dataclass, field
+from collections.abc import Callable, Iterable, Mapping
+from dataclasses import dataclass, field, replace
 from ipaddress import IPv4Address, IPv4Network
 
 from leafrunt_host.announcements import Announced
@@ -14,10 +14,13 @@ from leafrunt_host.clock import Step, moment_text
 from leafrunt_host.configuration import Configuration, InterfaceSettings
 from leafrunt_host.documents import schema_of
 from leafrunt_host.forwarding import host_warnings
+from leafrunt_host.history import History
 from leafrunt_host.kernel import Json
 from leafrunt_host.link import Link
+from leafrunt_host.namesakes import Namesakes
 from leafrunt_host.observing import Adjacencies
 from leafrunt_host.owed import Debts
+from leafrunt_host.programs import Attached
 from leafrunt_host.refusals import Refusal
 from leafrunt_host.rtnetlink import MAIN
 from leafrunt_host.table_changes import MOST_KEPT, TableChange, change_document
@@ -26,6 +29,11 @@ NO_DIAGNOSTIC = diagnostic_text(Diagnostic.NONE)
 SECONDS_TO_LOOK = 10.0
 """After so long a look of the keeper's hangs."""
 NEIGHBOR = re.compile(r"neighbor (\d+) (\S+) (\w+)")
+SILENT = "{}: what is said here is from before"
+ALL_OUT = "the program at veto keeps all routes out: LSAs offer {}, and it lets none in"
+UNKEPT = "after a restart neighbors with keys may refuse this router for their RouterDeadInterval"
+PATTERN = "*?["
+"""What makes a pattern of an interface's name (fnmatch(3)): there may be none of these."""
 MOST_STOPPED = 64
 """Lines of `routerd` that are kept: one for each interface that it stops to serve."""
 
@@ -63,6 +71,8 @@ class Kept:
     """How many routes are kept for a moment though `routerd`'s table lacks them."""
     table: int = 0
     """How many routes `routerd`'s table has."""
+    own: int = 0
+    """How many of these are the router's own networks."""
 
 
 @dataclass
@@ -77,10 +87,8 @@ class Known:
     neighbors: dict[int, Neighbor] = field(default_factory=dict)
     announced: dict[IPv4Network, Announced] = field(default_factory=dict)
     """The destinations that `routerd` has taken."""
-    programs: dict[str, tuple[str, int]] = field(default_factory=dict)
-    """By hook the object file and the bound."""
-    by_hand: frozenset[str] = frozenset()
-    """The hooks of those that were attached at the console."""
+    programs: dict[str, Attached] = field(default_factory=dict)
+    """Those at the hooks."""
     kept: Kept = field(default_factory=Kept)
     stopped: tuple[str, ...] = ()
     """Interfaces that `routerd` serves no longer."""
@@ -90,12 +98,28 @@ class Known:
     """The last time that `routerd` refused what happens, or that it does."""
     steps: tuple[Step, ...] = ()
     """The last steps of the machine's clock."""
+    history: History = field(default_factory=lambda: History(None))
+    """What changed."""
+    namesakes: Namesakes | None = None
     sessions: Sessions | None = None
     """BFD's, if an interface asks for it."""
     table_changes: tuple[tuple[float, TableChange], ...] = ()
     """What changed last of `routerd`'s table, and when."""
+    state_faults: Callable[[], Iterable[str]] = tuple
+    """Why numbers of authentication aren't kept over a restart."""
+    unconfirmed: str | None = None
+    """Until when a reload waits to be confirmed."""
+    not_reloaded: str | None = None
+    """Why the last reload was refused, and when; None once another one is done."""
+    file_fault: str | None = None
+    """Why a box wouldn't start with the configuration's file as it is now."""
     looked: float | None = None
     """When the keeper's last look ended, by the clock that nobody sets."""
+
+    @property
+    def by_hand(self) -> frozenset[str]:
+        """The hooks of programs that were attached at the console."""
+        return frozenset(hook for hook, it in self.programs.items() if it.by)
 
     def told(self, line: str) -> None:
         """A line of `routerd` on its standard error."""
@@ -103,7 +127,8 @@ class Known:
             self.stopped = (*self.stopped, line)
 
     def note_table(self, moment: float, change: TableChange) -> None:
-        self.table_changes = (*self.table_changes, (moment, change))[-MOST_KEPT:]
+        it = replace(change, gone={}, come={})
+        self.table_changes = (*self.table_changes, (moment, it))[-MOST_KEPT:]
 
     def publish(
         self, announced: dict[IPv4Network, Announced], not_announced: tuple[str, ...]
@@ -126,11 +151,17 @@ def warnings_of(configuration: Configuration) -> list[str]:
 
 def remarks_of(known: Known, now: float) -> list[str]:
     """What is wrong with the box as a whole, beside its interfaces."""
-    said = [each for step in known.steps if (each := step.remark(now))]
+    steps = known.steps
+    later = [sum(each.seconds for each in steps[at + 1 :]) for at in range(len(steps))]
+    said = [each for step, more in zip(steps, later) if (each := step.remark(now, more))]
     refused = known.refusal.remark(time.time()) if known.refusal else None
     if refused and known.refusal and not (said and known.refusal.is_of_clock):
         said.insert(0, refused)
+    said += filter(None, [known.namesakes.remark(now) if known.namesakes else None])
     said += known.not_announced
+    said += [f"{each}: {UNKEPT}" for each in known.state_faults()]
+    faults = (known.unconfirmed, known.not_reloaded, known.file_fault)
+    said += [each for each in faults if each]
     if known.looked is not None and now - known.looked > SECONDS_TO_LOOK:
         said.append(
             f"no look at `routerd` and the kernel's table has ended for {now - known.looked:.0f} s: "
@@ -169,7 +200,7 @@ def interface_status(known: Known, number: int, each: InterfaceSettings) -> Json
     if link is None:
         return said
     neighbor = known.neighbors.get(number)
-    if neighbor:
+    if neighbor and link.is_usable:
         address, began = link.next_hop(neighbor.router_id), since(known, neighbor)
         said["neighbor"] = {
             "router_id": str(neighbor.router_id),
@@ -191,11 +222,27 @@ def interface_status(known: Known, number: int, each: InterfaceSettings) -> Json
     return said
 
 
+def is_whole(known: Known) -> bool:
+    """Whether each interface that isn't passive has a Full neighbor, and the kernel all routes."""
+    active = {
+        number
+        for number, each in enumerate(known.configuration.interfaces, 1)
+        if not each.passive
+    }
+    full = {each.number for each in known.neighbors.values() if each.state == "Full"}
+    kept, awaited = known.kept, known.configuration.awaited
+    is_kept = not (kept.error or kept.refused or kept.without_hop)
+    is_there = active <= full and all(set(each) & set(PATTERN) for each in awaited)
+    return is_there and is_kept and not any(it.withholds for it in known.links.values())
+
+
 def at_rest_since(known: Known) -> float | None:
     """The moment, in seconds since 1970, from which on all neighbors have been Full, owed nothing
-    and were owed nothing; None if one isn't, or does, or there is none, or `routerd` refuses what
-    happens."""
-    if known.refusal and known.refusal.until is None:
+    and were owed nothing; None if one isn't, or does, or an interface has none, or `routerd` refuses
+    what happens, or something of it doesn't come to the kernel."""
+    if (known.refusal and known.refusal.until is None) or not is_whole(known):
+        return None
+    if known.namesakes and known.namesakes.remark(time.monotonic()):
         return None
     began = []
     for neighbor in known.neighbors.values():
@@ -218,10 +265,35 @@ def table_status(known: Known) -> Json:
     return {"routes": known.kept.table, "changes": changes}
 
 
-def status_of(known: Known, lsas: Mapping[str, int] | None = None) -> Json:
-    """The whole, as values that JSON has; `lsas` says how many LSAs of each type there are."""
+def program_documents(known: Known) -> list[Json]:
+    """The programs at the hooks."""
+    return [
+        {
+            "hook": hook,
+            "object": it.object,
+            "bound_instructions": it.bound,
+            "attached_by": it.origin,
+            "attached_at": it.at,
+        }
+        for hook, it in sorted(known.programs.items())
+    ]
+
+
+def status_of(
+    known: Known,
+    lsas: Mapping[str, int] | None = None,
+    silence: str | None = None,
+    offered: int | None = None,
+) -> Json:
+    """The whole, as values that JSON has; `lsas` says how many LSAs of each type there are,
+    `silence` that `routerd` doesn't answer, and `offered` to how many destinations LSAs offer a
+    way, if a program decides on these."""
     configuration = known.configuration
     kept = known.kept
+    let_in = kept.table - kept.own
+    all_out = kept.table > 0 and bool(offered) and let_in <= 0
+    head = [SILENT.format(silence)] if silence else []
+    head += [ALL_OUT.format(offered)] if all_out else []
     return {
         "schema": schema_of("status"),
         "box": configuration.name,
@@ -231,6 +303,7 @@ def status_of(known: Known, lsas: Mapping[str, int] | None = None) -> Json:
             "pid": known.routerd,
             "stopped": list(known.stopped),
             "refusal": known.refusal.document() if known.refusal else None,
+            "unanswered": silence,
         },
         "kernel": {
             "kept": configuration.kernel,
@@ -244,10 +317,16 @@ def status_of(known: Known, lsas: Mapping[str, int] | None = None) -> Json:
             "error": kept.error,
         },
         "table": table_status(known) if configuration.kernel else None,
+        "veto": None if offered is None else {"offered": offered, "let_in": max(0, let_in)},
+        "programs": program_documents(known),
         "lsas": dict(lsas or {}),
-        "at_rest_since": at_rest_since(known),
+        "at_rest_since": None if head else at_rest_since(known),
         "counter_names": dict(configuration.counters),
-        "warnings": [*remarks_of(known, time.monotonic()), *warnings_of(configuration)],
+        "warnings": [
+            *head,
+            *remarks_of(known, time.monotonic()),
+            *warnings_of(configuration),
+        ],
         "interfaces": [
             interface_status(known, number, each)
             for number, each in enumerate(configuration.interfaces, 1)
@@ -320,6 +399,13 @@ def interface_lines(each: Json) -> list[str]:
     return [f"{head}: {state}", *session, *remark_lines(each["name"], each["remarks"])]
 
 
+def program_line(program: Json) -> str:
+    return (
+        f"program at {program['hook']}: {program['object']}, attached {program['attached_by']} at "
+        f"{moment_text(program['attached_at'])}, bound {program['bound_instructions']}"
+    )
+
+
 def status_lines(status: Json) -> list[str]:
     """The same for a reader."""
     began = moment_text(status["since"])
@@ -328,6 +414,10 @@ def status_lines(status: Json) -> list[str]:
     ]
     lines += [f"routerd: {each}" for each in status["routerd"]["stopped"]]
     lines.append(kernel_line(status["kernel"]))
+    lines += map(program_line, status["programs"])
+    if status["veto"]:
+        it = status["veto"]
+        lines.append(f"veto: LSAs offer {it['offered']} routes, and it lets {it['let_in']} in")
     lines += [f"warning: {each}" for each in status["warnings"]]
     for each in status["interfaces"]:
         lines += interface_lines(each)

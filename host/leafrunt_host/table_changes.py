@@ -2,7 +2,7 @@
 from __future__ import annotations
 
 from collections.abc import Iterator, Mapping
-from dataclasses import dataclass
+from dataclasses import dataclass, field
 from itertools import chain, islice
 from typing import NamedTuple
 
@@ -30,13 +30,16 @@ class TableChange:
     removed: int
     changed: int
     shown: tuple[RouteChange, ...]
+    gone: Mapping[bytes, bytes] = field(default_factory=dict, compare=False, repr=False)
+    come: Mapping[bytes, bytes] = field(default_factory=dict, compare=False, repr=False)
+    """All lines that the table has no longer, and that it has now, by their prefixes."""
 
 
 def table_change(gone: Mapping[bytes, bytes], come: Mapping[bytes, bytes]) -> TableChange:
     """By the lines that the table has no longer, and those that it has now, each by its prefix."""
     both = len(gone.keys() & come.keys())
     shown = tuple(islice(route_changes(gone, come), MOST_SHOWN))
-    return TableChange(len(come) - both, len(gone) - both, both, shown)
+    return TableChange(len(come) - both, len(gone) - both, both, shown, gone, come)
 
 
 def route_changes(

@@ -2,10 +2,8 @@
 found and what is allowed."""
 from __future__ import annotations
 
-import difflib
 import json
 import re
-import tomllib
 from collections.abc import Callable, Iterable
 from dataclasses import dataclass
 from datetime import datetime
@@ -15,6 +13,16 @@ T = TypeVar("T")
 LONGEST_SHOWN = 60
 LARGEST_SHOWN = 10**20
 PLACE = re.compile(r"^(.*) \(at (line \d+, column \d+|end of document)\)$")
+TOML = "TOML 1.0, as toml.io describes it"
+HINTS = {
+    "Invalid value": "texts stand in double quotes, addresses too; true, false and numbers don't",
+    "Expected newline": "texts stand in double quotes, addresses too",
+    "Expected ']]'": "two brackets at both ends, as [[interface]]",
+    "Expected '='": "a key, = and its value on one line",
+    "Illegal character": "a double quote at both ends of a text, on one line",
+    "Cannot overwrite": "each key once",
+}
+"""What to write instead, by how `tomllib` begins."""
 
 
 @dataclass(frozen=True)
@@ -65,17 +73,22 @@ def mistake_of_toml(file: str, error: Exception) -> Mistake:
             "lists or tables too deep within each other",
             "at most some hundred levels",
         )
+    import tomllib  # (a client reads no file)
+
     if not isinstance(error, tomllib.TOMLDecodeError):
         return Mistake(
             file, "the file", "a value that is too long", "numbers of at most 4300 digits"
         )
     place = PLACE.match(str(error))
     where, what = (place[2], place[1]) if place else ("the file", str(error))
-    return Mistake(file, where, f"no TOML ({what})", "TOML 1.0, as toml.io describes it")
+    hint = next((f"{meant}; " for start, meant in HINTS.items() if what.startswith(start)), "")
+    return Mistake(file, where, f"no TOML ({what})", f"{hint}{TOML}")
 
 
 def toml_of(file: str, data: bytes, mistakes: list[Mistake]) -> dict[str, object]:
     """The tables of a file; a mistake, and no tables, if it is no TOML."""
+    import tomllib
+
     try:
         return tomllib.loads(data.decode("utf-8"))
     except UnicodeDecodeError as error:
@@ -128,12 +141,18 @@ class Table:
         self._wrong.add(key)
 
     def has(self, key: str) -> bool:
+        self._ask(key)
         return key in self._items
+
+    def _ask(self, key: str) -> None:
+        """Notes that this table may have the key."""
+        if key not in self._asked:
+            self._asked.append(key)
 
     def _value(
         self, key: str, allowed: str, default: object, is_right: Callable[[Any], bool]
     ) -> object:
-        self._asked.append(key)
+        self._ask(key)
         if key not in self._items:
             if default is None:
                 self.note(key, "nothing", allowed)
@@ -172,7 +191,7 @@ class Table:
 
     def secret(self, key: str, most: int, allowed: str) -> bytes | None:
         """A text of 1 to `most` bytes that isn't shown."""
-        self._asked.append(key)
+        self._ask(key)
         value = self._items.get(key)
         data = value.encode() if isinstance(value, str) else b""
         if 1 <= len(data) <= most:
@@ -202,7 +221,7 @@ class Table:
 
     def moment(self, key: str) -> float | None:
         """A moment in seconds since 1970; None if the key isn't there."""
-        self._asked.append(key)
+        self._ask(key)
         value = self._items.get(key)
         if value is None:
             return None
@@ -269,6 +288,8 @@ class Table:
 
     def end(self) -> None:
         """Notes the keys that were never asked for."""
+        import difflib
+
         for key in self._items:
             if key not in self._asked:
                 close = difflib.get_close_matches(key, self._asked, 1, 0.7)

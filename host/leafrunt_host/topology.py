@@ -14,7 +14,7 @@ import time
 from collections import Counter, OrderedDict
 from collections.abc import Callable
 from dataclasses import replace
-from ipaddress import IPv4Address
+from ipaddress import IPv4Address, IPv4Network
 from typing import NamedTuple
 
 from leafrunt_host.exchange import Side
@@ -35,6 +35,7 @@ from leafrunt_host.lsas import (
     header_of,
     is_newer,
     is_whole,
+    network_of,
 )
 from leafrunt_host.packets import LSA_HEADER_LENGTH, Malformed, Packet, PacketType, chunks, lsas_of
 
@@ -102,6 +103,8 @@ class Topology:
         self._news = news
         """Is called when an LSA comes, from either side, that says something new: a refresh of one
         that is known doesn't."""
+        self.changed: Callable[[bytes], None] = lambda _lsa: None
+        """Is called with each of these."""
         self._one_at_a_time = threading.Lock()
         self._entries: dict[bytes, Entry] = {}
         self._most = MOST_ENTRIES
@@ -162,7 +165,10 @@ class Topology:
         except Malformed:
             return
         own = packet.router_id.packed if side is Side.ROUTER else b""
-        if any(is_router_lsa_of(own, data) or self._is_new(data, now) for data in lsas):
+        new = [data for data in lsas if self._is_new(data, now)]
+        for data in new:
+            self.changed(data)
+        if new or any(is_router_lsa_of(own, data) for data in lsas):
             self._news()
         for data in lsas:
             if data[3] not in KINDS:
@@ -250,16 +256,22 @@ class Topology:
     def entries(self) -> list[tuple[LsHeader, Entry]]:
         """The LSAs with their headers of now, in the order of their keys; those that are flushed or
         ran out aren't in it. What the bridge has handed over by now is read first."""
+        found, now = self.all_entries()
+        found.sort()
+        return [(entry.header_at(now), entry) for _, entry in found if entry.age_at(now) < MAX_AGE]
+
+    def all_entries(self) -> tuple[list[tuple[bytes, Entry]], float]:
+        """The LSAs by their keys, and the moment; also those that were flushed or ran out within the
+        hour."""
         is_read = threading.Event()
         self._unread.put(is_read)
         is_read.wait(SECONDS_TO_READ)
         now = self._clock()
         with self._one_at_a_time:
             for key, entry in list(self._entries.items()):
-                if entry.age_at(now) == MAX_AGE and now - entry.moment > MAX_AGE:
+                if now - entry.moment > MAX_AGE and entry.age_at(now) == MAX_AGE:
                     del self._entries[key]
-            found = sorted(self._entries.items())
-        return [(entry.header_at(now), entry) for _, entry in found if entry.age_at(now) < MAX_AGE]
+            return list(self._entries.items()), now
 
 
 HEADING = (
@@ -284,10 +296,37 @@ def database_lines(topology: Topology) -> list[str]:
     return lines
 
 
-def whole_lines(topology: Topology, identity: IPv4Address) -> list[str]:
-    """The LSAs with this Link State ID, each with what its body says."""
-    found = [(header, entry) for header, entry in topology.entries() if header.key.id == identity]
-    lines = [HEADING] if found else []
+def meant_by(text: str) -> IPv4Address | IPv4Network:
+    """A Link State ID, or a destination. `ValueError` if it is neither."""
+    return IPv4Network(text) if "/" in text else IPv4Address(text)
+
+
+def is_of(meant: IPv4Address | IPv4Network, header: LsHeader, entry: Entry) -> bool:
+    """Whether an LSA has that Link State ID, or is of that destination, whose host bits its ID may
+    have set (RFC 2328, appendix E)."""
+    if isinstance(meant, IPv4Address):
+        return header.key.id == meant
+    match entry.body:
+        case ExternalBody(mask) | NetworkBody(mask):
+            return network_of(header.key.id, mask) == meant
+        case SummaryBody(mask) if header.key.type == LsType.SUMMARY:
+            return network_of(header.key.id, mask) == meant
+        case RouterBody(_, links):
+            stubs = (each for each in links if each.type == LinkType.STUB)
+            return any(network_of(each.id, each.data) == meant for each in stubs)
+    return False
+
+
+def none_of(meant: IPv4Address | IPv4Network) -> str:
+    """That no LSA is meant."""
+    if isinstance(meant, IPv4Network):
+        return f"no LSA announces {meant} (`why {meant}` says more)"
+    return f"no LSA has the Link State ID {meant} (A.B.C.D/L finds those of a destination)"
+
+
+def whole_lines(found: list[tuple[LsHeader, Entry]]) -> list[str]:
+    """These LSAs, each with what its body says."""
+    lines = [HEADING]
     for header, entry in found:
         lines += [database_line(header), *(f"  {each}" for each in body_lines(header, entry.body))]
     return lines

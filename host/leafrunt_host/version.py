@@ -2,7 +2,6 @@
 from __future__ import annotations
 
 import argparse
-import subprocess
 from pathlib import Path
 
 HOST = Path(__file__).resolve().parent.parent
@@ -22,6 +21,8 @@ def rows_of(file: Path) -> dict[str, str]:
 
 def said_by_git(clone: Path, *words: str) -> str | None:
     """What git says of a clone; None if it says nothing."""
+    import subprocess  # (`--help` needs none of it)
+
     command = ["git", "-C", str(clone), *words]
     try:
         ran = subprocess.run(

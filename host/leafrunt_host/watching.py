@@ -20,7 +20,6 @@ from leafrunt_host.status import bfd_lines, kernel_line
 from leafrunt_host.statuses import Status, Stopped
 from leafrunt_host.terminal import Row, Screen, why_no_screen
 
-LEAST_INTERVAL, MOST_INTERVAL = 0.5, 3600.0
 MOST_EVENTS, MOST_WARNINGS = 8, 4
 MOST_SHOWN = 2
 """Changes of which routes are shown."""

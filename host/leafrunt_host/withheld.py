@@ -13,17 +13,23 @@ import struct
 from collections.abc import Iterable, Iterator
 from dataclasses import dataclass
 from ipaddress import IPv4Address
+from itertools import takewhile
 
 from leafrunt_host.lsas import MAX_AGE, LsType, is_whole
-from leafrunt_host.packets import HEADER, LSA_HEADER_LENGTH, REQUEST_LENGTH, ROUTER_MTU, chunks
+from leafrunt_host.packets import (
+    HEADER,
+    LSA_HEADER_LENGTH,
+    REQUEST_LENGTH,
+    ROUTER_MTU,
+    Packet,
+    PacketType,
+    chunks,
+    lsas_of,
+)
+from leafrunt_host.places import AGE, FLUSHED, KEY, MOST_LSAS, Key, Places, Vacancy
 
 LONGEST_LSA = ROUTER_MTU - HEADER.size - 4
 """What has room in an Update that `routerd` reads."""
-MOST_LSAS = 16_384
-KEPT_FREE = 64
-"""Of these for what this router originates itself."""
-NO_EXTERNALS = 1_024
-"""Of these for LSAs of the area."""
 ROOM_AGAIN = 512
 """This many LSAs must have room before those that were withheld are asked for."""
 SECONDS_BETWEEN = 5.0
@@ -45,10 +51,7 @@ RESERVED = 0x8000_0000
 """12.1.6: no LSA has this sequence number."""
 HEAD = struct.Struct(">HBB4s4sIHH")
 ROUTER_LINK = struct.Struct(">8xBBH")
-AGE, KEY, INSTANCE = slice(0, 2), slice(3, 12), slice(12, 18)
-FLUSHED = MAX_AGE.to_bytes(2, "big")
-Key = bytes
-"""LS type, Link State ID and advertising router, as in an LSA's header."""
+INSTANCE = slice(12, 18)
 
 
 def header_fault(header: bytes) -> str | None:
@@ -61,7 +64,9 @@ def header_fault(header: bytes) -> str | None:
     if sequence == RESERVED:
         return "its sequence number 0x80000000 is reserved (RFC 2328, 12.1.6)"
     if length > LONGEST_LSA:
-        return f"it has {length} bytes, and at most {LONGEST_LSA} are read"
+        links = (length - LSA_HEADER_LENGTH - 4) // ROUTER_LINK.size
+        lost = f": none of this router's {links} links counts" * (kind == LsType.ROUTER)
+        return f"it has {length} bytes, and at most {LONGEST_LSA} are read{lost}"
     return None
 
 
@@ -115,87 +120,28 @@ def name_of(key: Key) -> str:
     return f"{kind} {IPv4Address(key[1:5])} of {IPv4Address(key[5:9])}"
 
 
-class Database:
-    """The keys of the LSAs that `routerd` has or was given, of all links, each with the moment when
-    it came last: `routerd` refuses an Update that would bring more than its limit. One thread's
-    alone."""
-
-    def __init__(self, most: int = MOST_LSAS - KEPT_FREE, no_externals: int = 0) -> None:
-        """`no_externals` of these places no AS-external-LSA takes: without a router-LSA on the way
-        no destination is reached."""
-        self._keys: dict[Key, float] = {}
-        self._most_externals = most - no_externals
-        self._oldest = float("-inf")
-        """No key came last before that moment."""
-        self._most = most
-
-    def __len__(self) -> int:
-        return len(self._keys)
-
-    @property
-    def has_room_again(self) -> bool:
-        return len(self._keys) + ROOM_AGAIN <= self._most_externals
-
-    def has(self, key: Key) -> bool:
-        return key in self._keys
-
-    def takes(self, lsa: bytes, now: float) -> bool:
-        """Notes an LSA, or the header of one, that comes from a neighbor; whether there is room
-        for it."""
-        key = lsa[KEY]
-        if lsa[AGE] == FLUSHED:
-            self._keys.pop(key, None)
-            return True
-        most = self._most_externals if key[0] == LsType.EXTERNAL else self._most
-        if key not in self._keys and len(self._keys) >= most:
-            self._let_go(now)
-            if len(self._keys) >= most:
-                return False
-        self._keys[key] = now
-        return True
-
-    def sent(self, lsas: Iterable[bytes], now: float) -> None:
-        """Notes what `routerd` sends: what it originates, and what it flushes."""
-        for lsa in lsas:
-            if lsa[AGE] == FLUSHED:
-                self._keys.pop(lsa[KEY], None)
-            else:
-                self._keys[lsa[KEY]] = now
-
-    def forget(self, keys: Iterable[Key]) -> None:
-        for each in keys:
-            self._keys.pop(each, None)
-
-    def _let_go(self, now: float) -> None:
-        """An LSA that wasn't refreshed has reached MaxAge, and is gone from each database (14).
-        Nothing is looked through before the oldest one may have."""
-        if now - self._oldest <= MAX_AGE:
-            return
-        old = [each for each, moment in self._keys.items() if now - moment > MAX_AGE]
-        self.forget(old)
-        self._oldest = min(self._keys.values(), default=now)
-
-
 @dataclass
 class _Unread:
-    """An instance of an LSA that isn't read, why, and whether it was flushed since."""
+    """An instance of an LSA that isn't read, why, when it came last, and whether it was flushed
+    since."""
 
     instance: bytes
     why: str
+    moment: float
     is_gone: bool = False
 
 
 class Withheld:
     """What is withheld on one link."""
 
-    def __init__(self, database: Database) -> None:
-        self._database = database
+    def __init__(self, places: Places) -> None:
+        self._places, self._share = places, places.share(self)
         self._unread: dict[Key, _Unread] = {}
         self._above: set[Key] = set()
+        """Those that have no place."""
         self._limit_told = float("-inf")
-        """Those above the limit."""
         self._promised: set[Key] = set()
-        """Those that were described in this exchange, and haven't come."""
+        """Those that were described in this exchange, and haven't come: they have a place left."""
         self._asked: dict[Key, float] = {}
         """Those that `routerd`'s last Request asks for, and since when."""
         self._given: dict[Key, tuple[int, bytes]] = {}
@@ -210,33 +156,44 @@ class Withheld:
 
     def updated(self, lsas: list[bytes], now: float) -> tuple[list[bytes], list[bytes]]:
         """Of an Update's LSAs those that are passed on, and the headers of those that are
-        acknowledged in place of `routerd`."""
+        acknowledged in place of `routerd`. What may have a place later is neither: the neighbor
+        sends it again."""
         passed: list[bytes] = []
         withheld: list[bytes] = []
         for lsa in lsas:
-            if self._is_passed(lsa, now):
+            room = Vacancy.NONE if self._is_unread(lsa, now) else self._room(lsa, now)
+            if room is Vacancy.FREE:
+                self._give(lsa, now)
                 passed.append(lsa)
-            else:
+            elif room is Vacancy.NONE:
                 withheld.append(lsa[:LSA_HEADER_LENGTH])
         return passed, withheld
 
-    def _is_passed(self, lsa: bytes, now: float) -> bool:
+    def _is_unread(self, lsa: bytes, now: float) -> bool:
         key, why = lsa[KEY], fault(lsa)
         if why:
-            self._note(key, lsa[INSTANCE], why, lsa[AGE] == FLUSHED)
+            self._note(key, lsa[INSTANCE], why, now, lsa[AGE] == FLUSHED)
+            return True
+        if self._is_known(lsa, now):
+            return True
+        self._unread.pop(key, None)
+        return False
+
+    def _is_known(self, header: bytes, now: float) -> bool:
+        """Whether this instance isn't read."""
+        known = self._unread.get(header[KEY]) if self._unread else None
+        if known is None or known.instance != header[INSTANCE]:
             return False
-        known = self._unread.get(key) if self._unread else None
-        if known and known.instance == lsa[INSTANCE]:
-            return False
-        if known:
-            del self._unread[key]
+        self._note(header[KEY], known.instance, known.why, now, known.is_gone)
+        return True
+
+    def _give(self, lsa: bytes, now: float) -> None:
+        key = lsa[KEY]
+        self._places.give(lsa, self._share, now)
         self._promised.discard(key)
-        if not self._has_room(lsa, now):
-            return False
         if key in self._asked:
             count, _ = self._given.get(key, (0, b""))
             self._given[key] = count + 1, lsa[INSTANCE]
-        return True
 
     def described(self, headers: Iterable[bytes], now: float) -> tuple[bytes, ...]:
         """The headers of a Description without those of LSAs that `routerd` can't have."""
@@ -246,43 +203,58 @@ class Withheld:
     def _is_described(self, header: bytes, now: float) -> bool:
         key, why = header[KEY], header_fault(header)
         if why:
-            self._note(key, header[INSTANCE], why)
+            self._note(key, header[INSTANCE], why, now)
             return False
-        known = self._unread.get(key)
-        if known and known.instance == header[INSTANCE]:
+        if self._is_known(header, now):
             return False
-        is_new = not self._database.has(key)
-        is_taken = self._has_room(header, now)
-        if is_new and self._database.has(key):
-            self._promise(key)
-        return is_taken
-
-    def _promise(self, key: Key) -> None:
-        """Of those that were promised only those with a place in the database matter, of which
-        there are no more than that has: others are at MaxAge, or were flushed since."""
-        if len(self._promised) >= MOST_LSAS:
-            self._promised = {each for each in self._promised if self._database.has(each)}
-        self._promised.add(key)
-
-    def _has_room(self, lsa: bytes, now: float) -> bool:
-        key = lsa[KEY]
-        if self._database.takes(lsa, now):
+        if header[AGE] == FLUSHED or self._places.has(key) or self._promises(key):
             self._above.discard(key)
             return True
+        self._is_above(key, now)
+        return False
+
+    def _promises(self, key: Key) -> bool:
+        """Whether there is a place left for an LSA that is described. Of those before, only what
+        hasn't come by another link needs one."""
+        free = self._places.free(self._share, key[0] == LsType.EXTERNAL) - self._share.given
+        if key not in self._promised and len(self._promised) >= free:
+            self._promised = {each for each in self._promised if not self._places.has(each)}
+            if len(self._promised) >= free:
+                return False
+        self._promised.add(key)
+        return True
+
+    def _room(self, lsa: bytes, now: float) -> Vacancy:
+        key = lsa[KEY]
+        room = Vacancy.FREE if lsa[AGE] == FLUSHED else self._places.room(key, self._share, now)
+        if room is Vacancy.NONE:
+            self._is_above(key, now)
+        else:
+            self._above.discard(key)
+        return room
+
+    def _is_above(self, key: Key, now: float) -> None:
         if not self._above and now - self._limit_told >= LIMIT_TOLD_EACH:
             self._limit_told = now
             self.news.append(self._limit_said())
         if len(self._above) < MOST_ABOVE:
             self._above.add(key)
-        return False
 
-    def _note(self, key: Key, instance: bytes, why: str, is_gone: bool = False) -> None:
+    def _note(
+        self, key: Key, instance: bytes, why: str, now: float, is_gone: bool = False
+    ) -> None:
         before = self._unread.pop(key, None)
         if before is None and not is_gone:
             self.news.append(f"the LSA {name_of(key)} is withheld: {why}")
         while len(self._unread) >= MOST_KEPT:
             del self._unread[next(iter(self._unread))]
-        self._unread[key] = _Unread(instance, why, is_gone)
+        self._unread[key] = _Unread(instance, why, now, is_gone)
+
+    def _forget(self, now: float) -> None:
+        """What wasn't refreshed has reached MaxAge, and nobody has it (14)."""
+        old = takewhile(lambda each: now - each[1].moment > MAX_AGE, self._unread.items())
+        for key, _ in list(old):
+            del self._unread[key]
 
     # -- from `routerd`
 
@@ -291,10 +263,17 @@ class Withheld:
         withheld is described again, unless it is gone."""
         self._described = now
         self._above.clear()
-        self._database.forget(self._promised)
         self._promised.clear()
         self._asked.clear()
         self._given.clear()
+
+    def sent(self, packet: Packet, now: float) -> None:
+        """Notes what `routerd` has, as it says at this link."""
+        if packet.type == PacketType.LINK_STATE_UPDATE:
+            self._places.sent(lsas_of(packet.body), now)
+        elif packet.type == PacketType.LINK_STATE_ACKNOWLEDGMENT:
+            headers = chunks(packet.body, LSA_HEADER_LENGTH)
+            self._places.acknowledged(headers, self._share, now)
 
     def is_stuck(self, request: bytes, now: float) -> bool:
         """Whether `routerd` asks for an LSA that it will never have, so that the exchange has to
@@ -305,17 +284,21 @@ class Withheld:
         self._given = {each: it for each, it in self._given.items() if each in self._asked}
         for key, (count, instance) in self._given.items():
             if count >= GIVEN_IN_VAIN:
-                self._note(key, instance, "routerd doesn't take it, and why isn't known here")
-        waits = (now - self._asked[each] for each in keys if each in self._unread)
+                self._note(key, instance, "routerd doesn't take it, and why isn't known here", now)
+        waits = (
+            now - self._asked[each] for each in keys if each in self._unread or each in self._above
+        )
         return max(waits, default=0.0) >= STUCK_AFTER and self._may_begin(now)
 
     def has_room_again(self, now: float) -> bool:
         """Whether LSAs that were withheld have room now, so that the exchange has to begin anew.
         One that is under way comes to its end first: on a busy machine thousands of headers take
         longer than what is between two that are begun."""
+        self._places.sweep(now)
+        self._forget(now)
         if not self._above or now - self._described < SECONDS_BETWEEN:
             return False
-        return self._database.has_room_again and self._may_begin(now)
+        return self._places.free(self._share) >= ROOM_AGAIN and self._may_begin(now)
 
     def _may_begin(self, now: float) -> bool:
         if now - self._begun < SECONDS_BETWEEN:
@@ -331,6 +314,10 @@ class Withheld:
             "routes are missing. Withdraw external destinations where they are announced"
         )
 
+    @property
+    def is_withholding(self) -> bool:
+        return bool(self._above) or any(not it.is_gone for it in self._unread.values())
+
     def remarks(self, now: float) -> Iterator[str]:
         """What is withheld, and what `routerd` waits for, for `status`."""
         told = [(key, it.why) for key, it in self._unread.items() if not it.is_gone]
@@ -340,7 +327,8 @@ class Withheld:
             yield f"{len(told) - MOST_TOLD} more LSAs are withheld, since routerd doesn't read them"
         if self._above:
             more = " or more" * (len(self._above) >= MOST_ABOVE)
-            yield f"{self._limit_said()} ({len(self._above)} LSAs{more} are withheld)"
+            brought = f"{self._share.filled} of the {len(self._places)} there came by this link"
+            yield f"{self._limit_said()} ({len(self._above)} LSAs{more} are withheld; {brought})"
         asked = [each for each, since in self._asked.items() if now - since >= LONG_ASKED]
         if asked and now - self._last_asked < LONG_ASKED:
             said = f"{len(asked)} LSA{'s' * (len(asked) > 1)} for more than {LONG_ASKED:.0f} s"

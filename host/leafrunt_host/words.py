@@ -16,11 +16,13 @@ BOX_WORDS = {
     "interfaces": "the interfaces, and what passed through each",
     "announced": "the external destinations that this router announces",
     "programs": "the programs at the hooks",
-    "database": "the LSAs; with a Link State ID after it those with that ID, whole",
+    "database": "the LSAs; with a Link State ID or a destination after it those of that, whole",
+    "why PREFIX": "why a destination, or the longest one of an address, is or isn't in the kernel",
+    "changes": "what changed of routes, neighbors and programs; a prefix after it: of that alone",
     "map": "the area as a Graphviz graph; with a prefix after it the way there is marked",
     "log": "the log's last 40 lines; with a number after it that many",
     "capture FILE": "write all OSPF packets to a new pcap file; `capture off` ends that",
-    "reload": "take the configuration over as it is now; where it is wrong, nothing changes",
+    "reload": "take the configuration over as it is now; `dry-run` after it says what that would do",
     "down": "end this box: let the neighbors know, remove the kernel's routes, end `routerd`",
 }
 CLIENT_WORDS = {

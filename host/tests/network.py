@@ -14,7 +14,7 @@ import subprocess
 import sys
 import tempfile
 import time
-from collections.abc import Callable, Iterable
+from collections.abc import Callable, Iterable, Iterator
 from contextlib import closing
 from dataclasses import dataclass, field
 from datetime import datetime
@@ -36,6 +36,33 @@ HELLO_INTERVAL, DEAD_INTERVAL, RETRANSMIT_INTERVAL = 2, 8, 2
 TOTAL_SECONDS = 60
 COMES_UP = 40
 """Seconds within which a router comes to Full here: two router-LSAs are five seconds apart."""
+
+
+@dataclass
+class Timers:
+    """HelloInterval and RouterDeadInterval, where nobody names others."""
+
+    hello: int = HELLO_INTERVAL
+    dead: int = DEAD_INTERVAL
+
+    @property
+    def comes_up(self) -> int:
+        """Seconds within which a router comes to Full."""
+        return COMES_UP + 3 * (self.hello - HELLO_INTERVAL)
+
+    @contextlib.contextmanager
+    def at(self, hello: int) -> Iterator[None]:
+        """Others for a while: this HelloInterval, and a RouterDeadInterval of four of them."""
+        before = self.hello, self.dead
+        self.hello, self.dead = hello, 4 * hello
+        try:
+            yield
+        finally:
+            self.hello, self.dead = before
+
+
+TIMERS = Timers()
+"""What a part of `try-network` is played with."""
 
 
 class CannotTry(Exception):
@@ -144,12 +171,13 @@ class Side:
 
     name: str
     keys: tuple[Secret, ...] = ()
-    hello: int = HELLO_INTERVAL
-    dead: int = DEAD_INTERVAL
+    hello: int = field(default_factory=lambda: TIMERS.hello)
+    dead: int = field(default_factory=lambda: TIMERS.dead)
     is_passive: bool | None = None
     """None says nothing of it, where that differs."""
     cost: int = 10
     bfd: Bfd | None = None
+    retransmit: int = RETRANSMIT_INTERVAL
 
 
 SHA = Secret(5, "hmac sha256", "a secret for BIRD")
@@ -236,6 +264,16 @@ class Network:
             self._up(end)
             run("ip", "-n", wires, "link", "set", wire, "master", f"br{self._bridges}", "up")
         return self._bridges
+
+    def join(self, number: int, end: End) -> None:
+        """One more interface at that bridge."""
+        wires, wire = self.name("wires"), f"b{number}{end.interface}"
+        run(
+            *("ip", "link", "add", end.interface, "netns", end.namespace, "type"),
+            *("veth", "peer", "name", wire, "netns", wires),
+        )
+        self._up(end)
+        run("ip", "-n", wires, "link", "set", wire, "master", f"br{number}", "up")
 
     def silence(self, number: int, is_silent: bool = True) -> None:
         """Nothing passes that bridge, and both ends keep their carrier; or it passes again."""
@@ -477,7 +515,7 @@ class Bird:
     def _interface(self, side: Side) -> str:
         if side.is_passive:
             return f'interface "{side.name}" {{ stub; }};'
-        said = f"hello {side.hello}; dead {side.dead}; retransmit {RETRANSMIT_INTERVAL};"
+        said = f"hello {side.hello}; dead {side.dead}; retransmit {side.retransmit};"
         said += f" cost {side.cost};"
         if side.keys:
             keys = " ".join(key.of_bird() for key in side.keys)
@@ -564,7 +602,7 @@ class Frr:
             return [*lines, "ip ospf passive", "exit"]
         lines += ["ip ospf network point-to-point", f"ip ospf hello-interval {side.hello}"]
         lines += [f"ip ospf dead-interval {side.dead}"]
-        lines += [f"ip ospf retransmit-interval {max(RETRANSMIT_INTERVAL, 3)}"]
+        lines += [f"ip ospf retransmit-interval {max(side.retransmit, 3)}"]
         if side.keys:
             lines.append("ip ospf authentication message-digest")
             lines += [
@@ -667,7 +705,7 @@ class Box:
         for side in self.sides:
             lines += ["", "[[interface]]", f'name = "{side.name}"']
             lines += [f"hello_interval = {side.hello}", f"dead_interval = {side.dead}"]
-            lines += [f"retransmit_interval = {RETRANSMIT_INTERVAL}", f"cost = {side.cost}"]
+            lines += [f"retransmit_interval = {side.retransmit}", f"cost = {side.cost}"]
             if side.is_passive is not None:
                 lines.append(f"passive = {str(side.is_passive).lower()}")
             if side.keys:

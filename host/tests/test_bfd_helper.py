@@ -474,6 +474,7 @@ class AsAProcess(unittest.TestCase):
         self.until(lambda: "leafrunt-bfd" in self.status_of(helper._ran.pid))
         self.until(lambda: "NoNewPrivs:\t1" in self.status_of(helper._ran.pid))
         self.assertIn("CapEff:\t0000000000000000", self.status_of(helper._ran.pid))
+        self.until(lambda: "Seccomp:\t2" in self.status_of(helper._ran.pid))
         if os.geteuid() == 0:
             self.assertNotIn("Uid:\t0", self.status_of(helper._ran.pid))
 

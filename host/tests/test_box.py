@@ -4,6 +4,7 @@ import contextlib
 import errno
 import io
 import os
+import pwd
 import shutil
 import signal
 import socket
@@ -16,6 +17,7 @@ import time
 import unittest
 from collections.abc import Callable
 from pathlib import Path
+from types import SimpleNamespace
 from typing import IO
 from unittest import mock
 
@@ -33,6 +35,7 @@ from leafrunt_host.rtnetlink import Kernel, Notices
 from leafrunt_host.server import MOST_CLIENTS
 from leafrunt_host.statuses import Status, Stopped
 from tests.run_box import KERNEL
+from tests.test_desk import known
 from tests.test_rtnetlink import Answering
 
 HERE = Path(__file__).parent
@@ -161,9 +164,9 @@ class Consoles(Boxes):
         self.up(more='[[announce]]\nprefix = "203.0.113.0/24"\n')
         for each in (
             self.lines,
-            self.two_at_once,
             self.noted,
             self.own_words,
+            self.two_at_once,
             self.long_and_odd_lines,
             self.one_that_goes_away,
             self.captures,
@@ -234,6 +237,12 @@ class Consoles(Boxes):
         self.assertEqual(other.ask("programs"), ["veto bound 7 /x/veto.o", "end"])
         self.assertEqual(client.ask("detach veto"), ["detached veto"])
         self.assertEqual(other.ask("programs"), ["end"])
+        logged = [each.partition("info: ")[2] for each in client.ask("log 2")[:-1]]
+        who = pwd.getpwuid(os.geteuid()).pw_name
+        self.assertRegex(
+            logged[0], rf"^console: attach /x/veto\.o: attached veto bound 7 \(by (\w+ as )?{who}\)$"
+        )
+        self.assertTrue(logged[1].startswith("console: detach veto: detached veto (by "))
 
     def own_words(self) -> None:
         client = self.client()
@@ -388,7 +397,7 @@ class Consoles(Boxes):
         self.assertEqual(self.leafrunt("database")[0], 0)
         self.assertEqual(
             self.leafrunt("database", "1.2.3.4"),
-            (1, "", "leafrunt: no LSA has the Link State ID 1.2.3.4\n"),
+            (1, "", "leafrunt: no LSA has the Link State ID 1.2.3.4 (A.B.C.D/L finds those of a destination)\n"),
         )
         self.assertTrue(self.leafrunt("map")[1].endswith("}\n"))
         self.assertEqual(self.leafrunt("map", "--to", "1.2.3.4/8")[0], 2)
@@ -789,6 +798,32 @@ class Starts(Boxes):
             check=False,
         )
         return ran.returncode, ran.stderr
+
+
+class Files(unittest.TestCase):
+    def test_a_file_that_no_box_would_start_with(self) -> None:
+        """It is told while the box runs, and not at the next boot; and no longer once it is well."""
+        faults = iter(["two.toml: cost: found 0\ntwo.toml: name: found 1", "", ""])
+
+        def read_again(_path: Path) -> Configuration:
+            if fault := next(faults, ""):
+                raise Stopped(fault, Status.REFUSED)
+            return it.configuration
+
+        it = known()
+        box = Box(it.configuration, mock.Mock(), KeptLog(), read_again)
+        told: list[str | None] = []
+
+        def wait(_seconds: float) -> bool:
+            told.append(it.file_fault)
+            return len(told) > 2
+
+        with mock.patch.object(box, "_ending", SimpleNamespace(wait=wait)):
+            with self.assertLogs("leafrunt.box", "WARNING") as logged:
+                box._follow_file(it)
+        said = "this box wouldn't start now (`leafrunt check`): two.toml: cost: found 0 (and 1 more)"
+        self.assertEqual(told, [None, said, None])
+        self.assertEqual(len(logged.output), 1)
 
 
 if __name__ == "__main__":

@@ -70,5 +70,16 @@ class Told(Keeps):
 
 del Keeps
 
+class BackAndForth(unittest.TestCase):
+    def test_no_advice_once_it_is_right_again(self) -> None:
+        """A clock that was set back by 120 s, and forward by as much, sends Hellos again."""
+        from leafrunt_host.clock import Step
+
+        back = Step(-120, 1000, 1.8e9)
+        self.assertIn("start the box again (or wait 110 s more)", back.remark(1010) or "")
+        self.assertIn("wait 20 s more", back.remark(1010, 90) or "")
+        self.assertIsNone(back.remark(1010, 120))
+
+
 if __name__ == "__main__":
     unittest.main()

@@ -13,8 +13,10 @@ from leafrunt_host.configuration import (
     Mistaken,
     object_hook,
     read_configuration,
+    refusal_text,
     verdict_of,
 )
+from leafrunt_host.interface_names import matches
 from leafrunt_host.isolation import Account
 from leafrunt_host.kernel import KernelInterface, interfaces_of
 from leafrunt_host.rtnetlink import Address, Link
@@ -31,7 +33,6 @@ KERNEL = {
     "same": KernelInterface("same", 1500, (IPv4Interface("10.0.1.1/30"),)),
     "lo": KernelInterface("lo", 65536, (IPv4Interface("10.255.0.1/32"),)),
 }
-NAMES = "bare, eth1, eth2, lo, same, thin"
 TOP = 'router_id = "1.1.1.1"\nrouterd = "routerd"\n'
 INTERFACE = '[[interface]]\nname = "eth1"\n'
 WHOLE = f"""{TOP}kernel = false
@@ -76,26 +77,49 @@ secret = "sixteen bytes ok"
 NUMBERS = "a whole number from {} to {}"
 DOTTED = "an address of four numbers that isn't 0.0.0.0, in quotes"
 PEER = "the neighbor's address, A.B.C.D in quotes"
-PREFIX = "A.B.C.D/L whose bits after the first L are 0"
+PREFIX = "A.B.C.D/L whose bits after the first L are 0, not in 0.0.0.0/8, 127.0.0.0/8, 169.254.0.0/16, 224.0.0.0/3"
 OBJECT = "the path of an object file that `routerd verify` accepts, without a space in it"
 TABLES = "tables, each begun with [[{}]]"
 LEVELS = 'one of "error", "warning", "info", "debug"'
 COUNTER_NAME = "1 to 64 letters, digits and `_`, first no digit"
 TOML = "TOML 1.0, as toml.io describes it"
-TOP_KEYS = "router_id, isolated, user, routerd, kernel, log_level, passive, interface, announce, program, counters, redistribute"
+TOP_KEYS = "router_id, isolated, user, routerd, kernel, log_level, passive, keys, interface, announce, program, counters, redistribute"
 INTERFACE_KEYS = "name, passive, address, cost, hello_interval, dead_interval, retransmit_interval, transmit_delay, keys, bfd, peer"
 OF_ETH1 = "interface 1 (eth1), "
-KERNEL_NAMES = f"the name of an interface of the kernel: {NAMES}"
+NAME = "an interface's name, or a pattern of names: at most 15 bytes, no space, / or :"
 KNOWN_KEYS = "names of keys: new, old"
 PRIVATE = "a file of keys that only its owner can read"
+
+ON_ONE_LINE = f"a key, = and its value on one line; {TOML}"
+QUOTED = "texts stand in double quotes, addresses too"
 
 MISTAKES = [
     # the text, and of each mistake where it is, what is found, what is allowed
     (
         "router_id",
-        (("end of document", "no TOML (Expected '=' after a key in a key/value pair)", TOML),),
+        (("end of document", "no TOML (Expected '=' after a key in a key/value pair)", ON_ONE_LINE),),
     ),
-    (TOP + TOP, (("line 3, column 22", "no TOML (Cannot overwrite a value)", TOML),)),
+    (
+        "router_id = 1.1.1.1\n",
+        (
+            (
+                "line 1, column 16",
+                "no TOML (Expected newline or end of document after a statement)",
+                f"{QUOTED}; {TOML}",
+            ),
+        ),
+    ),
+    (
+        TOP + "[[interface]]\nname = eth1\n",
+        (
+            (
+                "line 4, column 8",
+                "no TOML (Invalid value)",
+                f"{QUOTED}; true, false and numbers don't; {TOML}",
+            ),
+        ),
+    ),
+    (TOP + TOP, (("line 3, column 22", "no TOML (Cannot overwrite a value)", f"each key once; {TOML}"),)),
     (
         f"{TOP}x = {'9' * 5000}\n",
         (("the file", "a value that is too long", "numbers of at most 4300 digits"),),
@@ -194,15 +218,15 @@ MISTAKES = [
     (TOP + 'interface = ["eth1"]\n', (("interface", '"eth1"', TABLES.format("interface")),)),
     (TOP + "[interface]\n", (("interface", "a table", TABLES.format("interface")),)),
     (TOP + "interface = []\n", (("interface", "nothing", "1 to 63 tables [[interface]]"),)),
-    (TOP + "[[interface]]\n", (("interface 1, name", "nothing", KERNEL_NAMES),)),
-    (TOP + "[[interface]]\nname = 1\n", (("interface 1, name", "1", KERNEL_NAMES),)),
-    (
-        TOP + '[[interface]]\nname = "eth9"\n',
-        (("interface 1 (eth9), name", '"eth9", which the kernel doesn\'t have', KERNEL_NAMES),),
-    ),
+    (TOP + "[[interface]]\n", (("interface 1, name", "nothing", NAME),)),
+    (TOP + "[[interface]]\nname = 1\n", (("interface 1, name", "1", NAME),)),
     (
         TOP + '[[interface]]\nname = "a b; reboot"\n',
-        (("interface 1, name", '"a b; reboot", which the kernel doesn\'t have', KERNEL_NAMES),),
+        (("interface 1, name", '"a b; reboot"', NAME),),
+    ),
+    (
+        TOP + '[[interface]]\nname = "eth*"\naddress = "10.0.1.1/24"\n',
+        (("interface 1 (eth*), address", '"10.0.1.1/24"', "none for a pattern of names"),),
     ),
     (
         TOP + INTERFACE + INTERFACE,
@@ -221,16 +245,6 @@ MISTAKES = [
                 "interface 2 (same), address",
                 "10.0.1.1/30, which eth1 has too",
                 "an address of each interface's own",
-            ),
-        ),
-    ),
-    (
-        TOP + '[[interface]]\nname = "bare"\n',
-        (
-            (
-                "interface 1 (bare), name",
-                '"bare", which has no IPv4 address',
-                "an interface that has one",
             ),
         ),
     ),
@@ -269,7 +283,7 @@ MISTAKES = [
         (
             (
                 OF_ETH1 + "address",
-                '"10.0.1.2/24"',
+                '"10.0.1.2/24", which the interface doesn\'t have',
                 "an address of the interface with its prefix length: 10.0.1.1/24",
             ),
         ),
@@ -513,7 +527,14 @@ MISTAKES = [
     ),
     (
         TOP + INTERFACE + '[[program]]\nobject = "refused.o"\n',
-        (("program 1, object", '"refused.o": refused slot 3 rule 7', OBJECT),),
+        (
+            (
+                "program 1, object",
+                '"refused.o": refused slot 3 rule 7: a load or store may lie outside of its region: `i & 63` for '
+                '''a cell, `& 255` for a counter; `hooktool explain` shows it''',
+                OBJECT,
+            ),
+        ),
     ),
     (
         TOP + INTERFACE + '[[program]]\nobject = "open.o"\n',
@@ -530,11 +551,11 @@ MISTAKES = [
         ),
     ),
     (
-        TOP + '[[interface]]\nname = "eth1"\ncost = 0\ncolor = 1\n[[interface]]\nname = "eth7"\n',
+        TOP + '[[interface]]\nname = "eth1"\ncost = 0\ncolor = 1\n[[interface]]\nname = "eth7"\ncost = 0\n',
         (
             (OF_ETH1 + "cost", "0", NUMBERS.format(1, 65535)),
             (OF_ETH1 + "color", "an unknown key", INTERFACE_KEYS),
-            ("interface 2 (eth7), name", '"eth7", which the kernel doesn\'t have', KERNEL_NAMES),
+            ("interface 2 (eth7), cost", "0", NUMBERS.format(1, 65535)),
         ),
     ),
 ]
@@ -549,7 +570,7 @@ KEY_TABLE = "a table for each key, begun with its name: [letters, digits, `_`, `
 KEY_MISTAKES = [
     (
         "secret is here",
-        (("line 1, column 8", "no TOML (Expected '=' after a key in a key/value pair)", TOML),),
+        (("line 1, column 8", "no TOML (Expected '=' after a key in a key/value pair)", ON_ONE_LINE),),
     ),
     ('a = "secret"\n', (("a", "no table", KEY_TABLE),)),
     (ONE_KEY.replace("[a]", '["a b"]'), (('"a b"', "this name", KEY_TABLE),)),
@@ -678,6 +699,40 @@ class Reading(Files):
             [(each.object, each.hook) for each in read.programs],
             [(self.folder / "veto.o", "veto")],
         )
+
+    def test_programs(self) -> None:
+        """The hook that is wanted, and what numbers of refusals mean."""
+        text = TOP + INTERFACE + '[[program]]\nobject = "veto.o"\n'
+        (program,) = self.read(text + 'hook = "veto"\n').programs
+        self.assertGreater(program.bound, 0)
+        (mistake,) = self.mistakes_of(text + 'hook = "count"\n')
+        self.assertEqual(mistake[1:], ('"veto.o", for the hook veto', "one for the hook count"))
+        ((_, found, _),) = self.mistakes_of(text + 'hook = "vetoes"\n')
+        self.assertEqual(found, '"vetoes"')
+        (self.folder / "veto.o").write_bytes(b"\x7fELF" + bytes(60))
+        ((_, found, _),) = self.mistakes_of(text)
+        self.assertIn("an ELF file: `hooktool build` makes objects of it", found)
+
+    def test_words_beside_numbers(self) -> None:
+        for verdict, words in (
+            ("object refusal 1", "shorter than its header says"),
+            ("object refusal 6", "big-endian"),
+            ("code refusal 4 slot 2", "big-endian"),
+            ("refused slot 3 rule 8", "hooktool explain"),
+        ):
+            self.assertTrue(refusal_text(verdict).startswith(f"{verdict}: "))
+            self.assertIn(words, refusal_text(verdict))
+        for verdict in ("object refusal 99", "cannot read /x", "out of memory"):
+            self.assertEqual(refusal_text(verdict), verdict)
+
+    def test_martians(self) -> None:
+        """What redistribution never announces isn't announced by name either; the default is."""
+        for prefix in ("127.0.0.0/8", "224.0.0.0/4", "169.254.1.0/24", "0.0.0.0/8", "240.0.0.0/5"):
+            ((where, found, allowed),) = self.mistakes_of(TOP + INTERFACE + f'[[announce]]\nprefix = "{prefix}"\n')
+            self.assertEqual((where, found), ("announce 1, prefix", f'"{prefix}"'))
+            self.assertIn("not in 0.0.0.0/8, 127.0.0.0/8", allowed)
+        default = '[[announce]]\nprefix = "0.0.0.0/0"\n'
+        self.assertEqual(len(self.read(TOP + INTERFACE + default).announcements), 1)
 
     def test_the_least_file(self) -> None:
         read = self.read(TOP + INTERFACE)
@@ -846,9 +901,47 @@ class Reading(Files):
                 read = self.read(whole.replace('"eth1"', '"eth2"\naddress = "10.0.2.1/24"'))
                 self.assertEqual([each.passive for each in read.interfaces], wanted)
 
+    def test_interfaces_that_are_not_there(self) -> None:
+        """The box runs without them, and says so."""
+        names = ("eth1", "tun9", "bare", "wg1")
+        text = "".join(f'[[interface]]\nname = "{each}"\n' for each in names)
+        read = self.read(TOP + text + 'address = "10.9.9.1/24"\n')
+        self.assertEqual([each.name for each in read.interfaces], ["eth1"])
+        self.assertEqual(read.awaited, ("tun9", "bare", "wg1"))
+        without = "the box runs without it, and takes it once it comes"
+        self.assertIn(f"tun9: the kernel doesn't have it: {without}", read.advice)
+        self.assertIn(f"bare: it has no IPv4 address: {without}", read.advice)
+
+    def test_none_is_there(self) -> None:
+        read = self.read(TOP + '[[interface]]\nname = "tun9"\n')
+        self.assertEqual((read.interfaces, read.awaited), ((), ("tun9",)))
+
+    def test_patterns_of_names(self) -> None:
+        """A section that names an interface goes before; those with several addresses, an MTU that
+        OSPF can't have or an address of another's are left out, and the loopback interface is."""
+        text = TOP + '[[interface]]\nname = "*"\ncost = 9\n' + INTERFACE
+        read = self.read(text)
+        self.assertEqual([(each.name, each.cost) for each in read.interfaces], [("eth1", 10)])
+        self.assertIn("same is left out: eth1 has its address too", read.advice)
+        read = self.read(TOP + '[[interface]]\nname = "s?me"\ncost = 9\npeer = "10.0.1.2"\n')
+        (one,) = read.interfaces
+        self.assertEqual((one.name, one.cost, str(one.peer)), ("same", 9, "10.0.1.2"))
+        self.assertEqual(read.awaited, ("s?me",))
+        read = self.read(TOP + '[[interface]]\nname = "wg*"\n')
+        self.assertEqual((read.interfaces, read.advice), ((), ()))
+
+    def test_what_a_pattern_means(self) -> None:
+        for name, interface, is_meant in (
+            *(("wg*", "wg0", True), ("wg*", "wg", True), ("wg*", "awg0", False)),
+            *(("e?h1", "eth1", True), ("e?h1", "eh1", False), ("lo", "lo", True)),
+            ("*", "lo", False),
+            *(("a.*", "a.1", True), ("a.*", "ab1", False), ("wg0", "wg0", True)),
+        ):
+            self.assertEqual(matches(name, interface), is_meant, (name, interface))
+
     def test_the_documents_have_each_key(self) -> None:
-        """docs/use/HOST.md's table of keys against the keys that are read."""
-        document = (Path(__file__).parents[2] / "docs" / "use" / "HOST.md").read_text(encoding="utf-8")
+        """docs/use/CONFIGURATION.md's table of keys against the keys that are read."""
+        document = (Path(__file__).parents[2] / "docs" / "use" / "CONFIGURATION.md").read_text(encoding="utf-8")
         for (
             each
         ) in f"{TOP_KEYS}, keys, {INTERFACE_KEYS}, prefix, metric, type, tag, object, {KEY_FIELDS}".split(

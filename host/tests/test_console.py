@@ -33,6 +33,24 @@ class Typing(unittest.TestCase):
         for each in ("attach PATH", "table", "status", "capture FILE", "quit"):
             self.assertTrue(any(line.startswith(f"{each} ") for line in lines), each)
 
+    def test_statuses(self) -> None:
+        """Of the first line that isn't done, as `routerd`'s own commands have them."""
+        for answers, status in (
+            ([["attached veto bound 5"], ["end"]], 0),
+            ([["refused slot 0 rule 4"], ["end"]], 1),
+            ([["object refusal 1"]], 1),
+            ([["unknown"]], 1),
+            ([["refused 4"], ["cannot read /x"]], 1),
+            ([["originated"], ["cannot read /x"], ["refused 4"]], 3),
+            ([["out of memory"]], 4),
+            ([["refused: the box is ending"]], 1),
+            ([["failed: x"]], 3),
+        ):
+            given = iter(answers)
+            client = mock.Mock(spec=Client, ask=lambda _line: next(given))
+            with self.subTest(answers), contextlib.redirect_stdout(io.StringIO()), contextlib.redirect_stderr(io.StringIO()):
+                self.assertEqual(run(client, ["x"] * len(answers)), status)
+
     def test_what_is_no_text(self) -> None:
         """It's a line that the box doesn't know, and the next one is read."""
         client = mock.Mock(spec=Client, ask=lambda line: [f"asked {line}"])

@@ -4,8 +4,9 @@ import copy
 import unittest
 from typing import Any
 
+from leafrunt_host.documents import DOCUMENTS
 from leafrunt_host.kernel import Json
-from leafrunt_host.listing import DOCUMENTS, understood
+from leafrunt_host.listing import understood
 from leafrunt_host.metrics import families_of
 from leafrunt_host.statuses import Stopped
 from leafrunt_host.watching import Look, Watched, rows_of

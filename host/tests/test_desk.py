@@ -2,6 +2,7 @@
 import json
 import logging
 import os
+import signal
 import struct
 import sys
 import tempfile
@@ -12,21 +13,27 @@ from collections import Counter
 from dataclasses import dataclass, field, replace
 from ipaddress import IPv4Address, IPv4Interface, IPv4Network
 from pathlib import Path
+from types import SimpleNamespace
+from typing import Any
 from unittest import mock
 
 from leafrunt_host import capture as captures
 from leafrunt_host.announcements import Announced
 from leafrunt_host.capture import MOST_WAITING, Capture
 from leafrunt_host.configuration import Configuration, InterfaceSettings
+from leafrunt_host.desk import Desk
 from leafrunt_host.destinations import Announcement
 from leafrunt_host.exchange import Side
+from leafrunt_host.health import checked
 from leafrunt_host.journal import Kept as KeptLog
-from leafrunt_host.journal import one_line
+from leafrunt_host.journal import Shown, one_line, path_of
 from leafrunt_host.kernel_settings import KernelSettings
 from leafrunt_host.observing import Adjacencies, Report
 from leafrunt_host.owed import Owed
 from leafrunt_host.packets import lsas_of
-from leafrunt_host.router import LONGEST_LINE, Router, RouterGone
+from leafrunt_host.programs import Attached
+from leafrunt_host.router import LONGEST_LINE, Router, RouterGone, RouterSilent
+from leafrunt_host.server import Asked, who_is
 from leafrunt_host.status import (
     Kept,
     Known,
@@ -50,6 +57,8 @@ class StandInLink:
     said: list[Report]
     counters: Counter[str] = field(default_factory=lambda: Counter({"in": 3}))
     owed: Owed = field(default_factory=Owed)
+    withholds: bool = False
+    is_usable: bool = True
 
     def reports(self, _now: float) -> list[Report]:
         return self.said
@@ -102,6 +111,36 @@ class Rests(unittest.TestCase):
             self.assertIsNone(status["at_rest_since"])
             self.assertNotIn("at rest", "".join(status_lines(status)))
 
+    def test_not_at_rest_though_all_neighbors_are_full(self) -> None:
+        """An interface has none, an LSA is withheld, a route isn't in the kernel, a program keeps all
+        out, or `routerd` doesn't answer."""
+        full = ("neighbor 1 2.2.2.2 Full",)
+        self.assertIsNotNone(status_of(known(neighbors=full))["at_rest_since"])
+        lonely, withholding, refused, lost, unkept, awaiting = (known(neighbors=full) for _ in range(6))
+        awaiting.configuration = replace(awaiting.configuration, awaited=("ppp*", "eth9"))
+        one = lonely.configuration.interfaces
+        more = (*one, interface("eth2", "10.0.3.1/24"))
+        lonely.configuration = replace(lonely.configuration, interfaces=more)
+        withholding.links[1].withholds = True
+        refused.kept = Kept(refused=("10.0.0.0/8 via 10.0.1.2 dev eth1: File exists",))
+        lost.kept = Kept(without_hop=(b"10.0.0.0/8",))
+        unkept.kept = Kept(error="no ip")
+        for it in (lonely, withholding, refused, lost, unkept, awaiting):
+            self.assertIsNone(status_of(it)["at_rest_since"])
+        it = known(neighbors=full)
+        it.configuration = replace(it.configuration, awaited=("ppp*",))
+        self.assertIsNotNone(status_of(it)["at_rest_since"])
+        self.assertIsNone(status_of(it, silence="routerd hasn't answered")["at_rest_since"])
+        it.kept = Kept(table=3, own=3)
+        status = status_of(it, offered=8)
+        self.assertIsNone(status["at_rest_since"])
+        lines = status_lines(status)
+        self.assertIn("veto: LSAs offer 8 routes, and it lets 0 in", lines)
+        said = "warning: the program at veto keeps all routes out: LSAs offer 8, and it lets none in"
+        self.assertIn(said, lines)
+        it.kept = Kept(table=4, own=3)
+        self.assertIsNotNone(status_of(it, offered=8)["at_rest_since"])
+
 
 class Statuses(unittest.TestCase):
     def lines(self, it: Known) -> list[str]:
@@ -120,6 +159,42 @@ class Statuses(unittest.TestCase):
             r"^eth1: 10\.0\.1\.1/24, MTU 1500: 2\.2\.2\.2 \(10\.0\.1\.2\) Full since \d{4}-",
         )
         self.assertEqual(lines[3:-1], ["lan0: 10.0.2.1/24, MTU 1500: passive"])
+
+    def test_programs_and_refused_reloads(self) -> None:
+        it = known()
+        it.programs = {"veto": Attached("/v.o", 5, "root", 1e9), "tag": Attached("/t.o", 6, "", 1e9)}
+        it.not_reloaded = "the last reload was refused at 02:14: no"
+        lines = self.lines(it)
+        self.assertRegex(lines[1], r"^program at tag: /t\.o, attached by the configuration at 2001-")
+        self.assertRegex(lines[2], r"^program at veto: /v\.o, attached at the console by root at .*, bound 5$")
+        self.assertIn(it.not_reloaded, status_of(it)["warnings"])
+
+    def test_health(self) -> None:
+        """0, 1 and 2, as Nagios takes them, and a line for each complaint."""
+        def health(it: Known, **named: Any) -> tuple[int, list[str]]:
+            status = json.loads(json.dumps(status_of(it, **named)))
+            status["warnings"] = [each for each in status["warnings"] if "take care" not in each and "sysctl" not in each]
+            return checked(status)
+
+        full = ("neighbor 1 2.2.2.2 Full",)
+        good = "LEAFRUNT OK: box one: 1 neighbors are Full, 7 routes in the kernel"
+        it = known(Report("eth1", TWO, THERE, 1.0), neighbors=full)
+        it.kept = Kept(7)
+        self.assertEqual(health(it), (0, [good]))
+        it.kept = Kept(7, ("10.0.0.0/8: File exists",), (b"11.0.0.0/8",))
+        status, lines = health(it)
+        self.assertEqual(status, 1)
+        self.assertEqual(lines[0], "LEAFRUNT WARNING: box one: the kernel refuses 10.0.0.0/8: File exists (and 1 more)")
+        self.assertEqual(lines[1:], ["WARNING: the kernel refuses 10.0.0.0/8: File exists", "WARNING: 1 routes without a known next hop"])
+        lonely = known(Report("eth1", reasons=("down: no carrier",)))
+        self.assertEqual(health(lonely)[1][1:], ["CRITICAL: no neighbor is Full", "WARNING: eth1: no neighbor: down: no carrier"])
+        self.assertEqual(health(lonely)[0], 2)
+        silent = health(known(neighbors=full), silence="routerd hasn't answered `table` for 9 s")
+        self.assertEqual(silent, (2, ["LEAFRUNT CRITICAL: box one: routerd hasn't answered `table` for 9 s", "CRITICAL: routerd hasn't answered `table` for 9 s"]))
+        it = known(neighbors=full)
+        self.assertEqual(health(it, offered=3)[0], 0)
+        it.kept = Kept(table=1, own=1)
+        self.assertEqual(health(it, offered=3)[1][1:], ["CRITICAL: the program at veto keeps all routes out"])
 
     def test_a_state_that_is_new(self) -> None:
         """The moment of the state before isn't told of this one."""
@@ -191,6 +266,68 @@ class Statuses(unittest.TestCase):
             net = IPv4Network(prefix)
             it.announced[net] = Announced(Announcement(net, 1, 2, 0), answer)
         self.assertEqual(originated(it), frozenset([IPv4Network("10.0.0.0/8")]))
+
+
+class Lines(unittest.TestCase):
+    """What lines at the console do beside their answers."""
+
+    def setUp(self) -> None:
+        self.known, self.woken = known(), list[str]()
+        self.answers = {"attach /v.o": "attached veto bound 5", "add 10.0.0.0/8 1 2 0": "originated"}
+        router = SimpleNamespace(
+            ask=lambda line: [self.answers.get(line, "unknown")],
+            look=lambda: None,
+            soon=lambda ask, _seconds: ask(),
+        )
+        announcements = SimpleNamespace(by_hand=lambda line: self.answers.get(line, "refused 5"))
+        parts = (self.known, router, announcements, None, None, KeptLog())
+        self.desk = Desk(*parts, end=lambda: None, wake=lambda: self.woken.append("woken"))
+
+    def test_the_kernels_table_follows_at_once(self) -> None:
+        for count, line in enumerate(("attach /v.o", "add 10.0.0.0/8 1 2 0", "detach veto"), 1):
+            self.desk.answer(Asked(line))
+            self.assertEqual(len(self.woken), count, line)
+        self.desk.answer(Asked("counters"))
+        self.assertEqual(len(self.woken), 3)
+
+    def test_what_is_logged(self) -> None:
+        with self.assertLogs("leafrunt.console", "INFO") as logged:
+            for line in ("attach /v.o", "counters", "add 1.2.3.0/24 1 2 0", "capture"):
+                self.desk.answer(Asked(line, by="alice as root"))
+        said = [each.partition("console:")[2].partition("console: ")[2] for each in logged.output]
+        self.assertEqual(
+            said,
+            [
+                "attach /v.o: attached veto bound 5 (by alice as root)",
+                "add 1.2.3.0/24 1 2 0: refused 5 (by alice as root)",
+                "capture: refused: after `capture` comes a new file's path, or `off` (by alice as root)",
+            ],
+        )
+
+    def test_a_script_fills_no_log(self) -> None:
+        with self.assertLogs("leafrunt.console", "INFO") as logged:
+            for _ in range(5000):
+                self.desk.answer(Asked("withdraw 10.0.0.0/8"))
+        self.assertEqual(len(logged.output), 100)
+
+    def test_who_attached_it_and_when(self) -> None:
+        self.desk.answer(Asked("attach /v.o", by="root"))
+        it = self.known.programs["veto"]
+        self.assertEqual((it.object, it.bound, it.origin), ("/v.o", 5, "at the console by root"))
+        self.assertAlmostEqual(it.at, time.time(), delta=5)
+        self.assertEqual(self.known.by_hand, {"veto"})
+        self.desk.passed_on("attach /v.o")
+        self.assertEqual(self.known.programs["veto"].origin, "by the configuration")
+        self.assertEqual(self.known.by_hand, frozenset())
+
+    def test_whose_login_it_is(self) -> None:
+        with tempfile.TemporaryDirectory() as folder:
+            (Path(folder) / "7").mkdir()
+            login = Path(folder) / "7" / "loginuid"
+            for said, wanted in (("4294967295", "root"), ("0", "root"), ("1", "daemon as root")):
+                login.write_text(said)
+                self.assertEqual(who_is(7, 0, Path(folder)), wanted)
+        self.assertEqual(who_is(8, 3_999_999_999, Path(folder)), "3999999999")
 
 
 class Captures(unittest.TestCase):
@@ -266,6 +403,34 @@ class Logs(unittest.TestCase):
     def test_one_line(self) -> None:
         self.assertEqual(one_line("a\x1b[2J\nb\u2028c\xe9"), "a [2J b c\xe9")
 
+    def test_a_file_that_was_rotated(self) -> None:
+        """It is made anew under its name, without a reload; what is no file any more stays as it is."""
+        with tempfile.TemporaryDirectory() as folder:
+            path, moved = Path(folder) / "log", Path(folder) / "log.1"
+            descriptor = os.open(path, os.O_WRONLY | os.O_CREAT)
+            shown = Shown(descriptor, logging.Formatter())
+
+            def say(text: str) -> None:
+                shown.emit(logging.makeLogRecord({"msg": text}))
+                shown.flush()
+
+            say("one")
+            path.rename(moved)
+            say("two")
+            self.assertEqual((moved.read_text(), path.read_text()), ("one\n", "two\n"))
+            path.unlink()
+            path.symlink_to(moved)
+            say("three")
+            self.assertEqual(moved.read_text(), "one\n")
+            path.unlink()
+            say("four")
+            self.assertEqual(path.read_text(), "four\n")
+            shown._descriptor = os.open(os.devnull, os.O_WRONLY)
+        reader, writer = os.pipe()
+        self.assertIsNone(path_of(writer))
+        os.close(reader)
+        os.close(writer)
+
     def test_nothing_is_asked_for(self) -> None:
         self.assertEqual(KeptLog().last(0), [])
 
@@ -311,6 +476,47 @@ class Routers(unittest.TestCase):
         asker.join()
         self.assertEqual((ended.status, gone), (-9, ["routerd has ended"]))
         self.assertLess(time.monotonic() - began, 15)
+
+    def test_one_that_stands_still(self) -> None:
+        """Who asks is told within a second, and it is given up after its patience; what it answers
+        in time is no one else's answer."""
+        router = Router(self.program, self.configuration, patience=3)
+        self.assertIsNone(router.unanswered(0))
+        os.kill(router.pid, signal.SIGSTOP)
+        began = time.monotonic()
+        with self.assertRaisesRegex(RouterSilent, "^routerd hasn't answered `neighbors` for"):
+            router.soon(lambda: router.ask("neighbors"), 0.3)
+        self.assertLess(time.monotonic() - began, 1)
+        time.sleep(1)
+        began = time.monotonic()
+        self.assertRaises(RouterSilent, router.soon, lambda: router.ask("table"))
+        self.assertRaises(RouterSilent, router.look)
+        self.assertLess(time.monotonic() - began, 0.3)
+        os.kill(router.pid, signal.SIGCONT)
+        time.sleep(0.5)
+        self.assertEqual(router.soon(lambda: router.ask("counters")), ["counter 5 6", "end"])
+        os.kill(router.pid, signal.SIGSTOP)
+        began = time.monotonic()
+        self.assertRaises(RouterGone, router.ask, "neighbors")
+        self.assertTrue(2.9 < time.monotonic() - began < 6)
+        self.assertTrue(router.is_silent())
+        began = time.monotonic()
+        with self.assertLogs("leafrunt.router", "ERROR"):
+            self.assertEqual(router.quit().status, -9)
+        self.assertLess(time.monotonic() - began, 6)
+
+    def test_a_program_that_is_verified(self) -> None:
+        """That may take its time, and isn't silence."""
+        router = Router(self.program, self.configuration, patience=0.2)
+        asker = threading.Thread(target=lambda: router.ask("attach /silent", 2), daemon=True)
+        with mock.patch("threading.excepthook"):
+            asker.start()
+            time.sleep(1.2)
+            self.assertIsNotNone(router.unanswered())
+            router.look()
+            with self.assertLogs("leafrunt.router", "ERROR"):
+                router.quit(0.1)
+            asker.join()
 
     def test_errors_without_an_end(self) -> None:
         """Of one that was taken over: they fill no log and no memory, also without line feeds."""

@@ -18,10 +18,9 @@ from leafrunt_host import client as clients
 from leafrunt_host.announcements import Owner
 from leafrunt_host.authentication import Algorithm, Key
 from leafrunt_host.commands import LISTS, main
-from leafrunt_host.documents import VERSIONS, database_of, schema_of
+from leafrunt_host.documents import DOCUMENTS, VERSIONS, database_of, schema_of
 from leafrunt_host.exchange import Side
 from leafrunt_host.kernel import Json
-from leafrunt_host.listing import DOCUMENTS
 from leafrunt_host.observing import Report
 from leafrunt_host.status import status_of
 from leafrunt_host.statuses import Stopped
@@ -277,7 +276,8 @@ class OfBoxes(Boxes):
                 self.assertEqual(self.leafrunt(kind), (0, "\n".join(lines) + "\n", ""))
         for kind in LISTS:
             with self.subTest(kind):
-                status, text, errors = self.leafrunt(kind, "--json")
+                rest = ("203.0.113.0/24",) if kind in ("why", "changes") else ()
+                status, text, errors = self.leafrunt(kind, "--json", *rest)
                 self.assertEqual((status, errors), (0, ""))
                 self.assertEqual(schemas.faults(schemas.schema(kind), json.loads(text)), [])
         self.assertIn('"name": "martians"', self.leafrunt("counters", "--json")[1])

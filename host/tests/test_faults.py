@@ -3,7 +3,7 @@ answered, and the neighbor's good packets pass afterwards. What `routerd` does w
 `tools/fuzz datagrams`, which begins with them."""
 import logging
 import unittest
-from ipaddress import IPv4Address
+from ipaddress import IPv4Address, IPv4Network
 
 from leafrunt_host.area import area_of
 from leafrunt_host.area_map import map_lines
@@ -11,7 +11,8 @@ from leafrunt_host.authentication import Key, SequenceNumbers
 from leafrunt_host.inbox import Inbox
 from leafrunt_host.interfaces import KernelState
 from leafrunt_host.link import Link
-from leafrunt_host.lsas import MAX_AGE
+from leafrunt_host.lsas import MAX_AGE, RouterBody
+from leafrunt_host.offers import Offers, announced_length, found_around, offered
 from leafrunt_host.packet_filter import ip_packet
 from leafrunt_host.packets import ROUTER_MTU, Description, PacketType, lsas_of, read
 from leafrunt_host.topology import Topology, database_lines, whole_lines
@@ -48,13 +49,23 @@ class Played:
         """As `routerd` does it with LSAs that it has installed."""
         self.link.from_router(acknowledgment(*lsas).encode(), 1.0)
 
+    def why(self, identity: IPv4Address) -> list[str]:
+        """What `leafrunt why` goes by, for prefixes of that address."""
+        entries, now = self.topology.all_entries()
+        announced_length(entries, identity)
+        nets = {IPv4Network((identity, length), strict=False) for length in (0, 8, 24, 32)}
+        offers = [Offers(found_around(entries, each, now), OWN, each).all() for each in nets]
+        offered(entries, now, OWN, RouterBody(0, ()))
+        return [it.why_not for each in offers for it in each]
+
     def looked_at(self) -> list[str]:
         """All that shows LSAs, as a client of the console asks for it."""
         self.link.status(1.0)
         lines = database_lines(self.topology)
         entries = self.topology.entries()
         for identity in {header.key.id for header, _ in entries}:
-            lines += whole_lines(self.topology, identity)
+            lines += whole_lines([each for each in entries if each[0].key.id == identity])
+            lines += self.why(identity)
         lines += map_lines(area_of((header.key, entry.body) for header, entry in entries), OWN)
         return lines
 

@@ -4,6 +4,7 @@ import os
 import pwd
 import socket
 import stat
+import subprocess
 import tempfile
 import unittest
 from pathlib import Path
@@ -28,7 +29,47 @@ from leafrunt_host.router import Router
 
 PR_CAP_AMBIENT_IS_SET, CAP_NET_RAW = 1, 13
 NAMESPACE = "/proc/thread-self/ns/net"
-PRINTS = '#!/bin/sh\nexec >&2\ncat /proc/self/status\nulimit -v\ncat "$2"\nenv\n'
+PRINTS = """#!/usr/bin/python3 -IS
+import os, resource, sys
+names = ("AS", "FSIZE", "CORE")
+limits = [f"{each} {resource.getrlimit(getattr(resource, f'RLIMIT_{each}'))[1]}" for each in names]
+ids = [f"{os.getresuid()} {os.getresgid()} {os.getgroups()}"]
+with open(sys.argv[2]) as it:
+    variables = [f"{each}={os.environ[each]}" for each in os.environ]
+    print(*ids, *limits, it.read(), *variables, sep="\\n", file=sys.stderr, flush=True)
+print(sys.stdin.read())
+"""
+ATTEMPTS = """#!/usr/bin/python3 -IS
+import ctypes, os, socket, sys, threading
+def attempt(what, act):
+    try:
+        found = act()
+        done = found is not None and found < 0 if isinstance(found, int) else False
+        print(what, "refused" if done else "done", file=sys.stderr, flush=True)
+    except OSError:
+        print(what, "refused", file=sys.stderr, flush=True)
+def connected():
+    with socket.socket(socket.AF_UNIX) as one:
+        one.connect("SOCKET")
+call = ctypes.CDLL(None).syscall
+attempt("own file", lambda: open(sys.argv[2]).close())
+attempt("thread", lambda: threading.Thread(target=int).start())
+attempt("other file", lambda: open("/etc/passwd").close())
+attempt("write here", lambda: open("made", "w").close())
+attempt("write in /tmp", lambda: open("/tmp/leafrunt-made", "w").close())
+attempt("write in /dev/shm", lambda: open("/dev/shm/leafrunt-made", "w").close())
+attempt("folder", lambda: os.mkdir("made"))
+attempt("process", os.fork)
+attempt("signal", lambda: os.kill(OTHER, 0))
+attempt("tracing", lambda: call(101, 16, OTHER, 0, 0))
+attempt("unix socket", connected)
+attempt("netlink", lambda: socket.socket(socket.AF_NETLINK, socket.SOCK_RAW, 0).close())
+attempt("user namespace", lambda: call(272, 0x10000000))
+attempt("keys", lambda: call(250, 0, -3, 0))
+attempt("bpf", lambda: call(321, 0, 0, 0))
+attempt("shared memory", lambda: call(29, 7, 4096, 0o1600))
+print(sys.stdin.read())
+"""
 
 
 def isolated(case: unittest.TestCase) -> World:
@@ -53,15 +94,14 @@ class Accounts(unittest.TestCase):
                 account_of(name, "one")
             self.assertIn(words, str(raised.exception))
 
-    def test_the_user_leafrunt(self) -> None:
-        """Where the system has it, and where `leafrunt` runs as that itself."""
+    def test_a_user_that_is_named(self) -> None:
+        """Else a number of the box's own, even if the system has a user `leafrunt`."""
         found = mock.Mock(pw_name="leafrunt", pw_uid=os.geteuid() + 1, pw_gid=7)
         with mock.patch("leafrunt_host.isolation.pwd.getpwnam", return_value=found):
-            self.assertEqual(account_of(None, "one"), Account("leafrunt", os.geteuid() + 1, 7))
-            found.pw_uid = os.geteuid() or 5
-            with mock.patch("leafrunt_host.isolation.os.geteuid", return_value=found.pw_uid):
-                self.assertNotEqual(account_of(None, "one").user, found.pw_uid)
-                self.assertRaises(ValueError, account_of, "leafrunt", "one")
+            self.assertEqual(account_of("leafrunt", "one").user, os.geteuid() + 1)
+            numbers = [account_of(None, each).user for each in ("one", "two")]
+        self.assertEqual(numbers, [free_number("one"), free_number("two")])
+        self.assertNotEqual(*numbers)
 
     def test_a_number_that_nobody_has(self) -> None:
         one = free_number("one")
@@ -144,38 +184,66 @@ class Worlds(unittest.TestCase):
         self.assertIn(mock.call("prctl", PR_CAP_AMBIENT, 4, 0, 0, 0), calls.mock_calls)
 
     def test_whom_it_runs_as(self) -> None:
-        """A program that prints what it is: no capabilities, no groups, a bounded memory."""
+        """A program that prints what it is: no groups, bounded memory and files."""
         world = isolated(self)
         account = world.account
         assert account
-        with tempfile.TemporaryDirectory() as folder:
-            room = Room("one", Path(folder, "run"), Path(folder, "state"))
-            room.enter()
-            os.chmod(folder, 0o755)
-            program = Path(folder, "routerd")
-            program.write_text(PRINTS)
-            program.chmod(0o755)
-            room.lend("routerd.conf", b"the configuration\n")
-            said: list[str] = []
-            with self.assertLogs("leafrunt.router"):
-                ended = Router(program, room.configuration, said.append, world).quit()
-            room.leave()
-        self.assertEqual(ended.status, 0)
+        said = self.said_by(PRINTS, world)
+        user, group = account.user, account.group
         for line in (
-            f"Uid:\t{account.user}\t{account.user}\t{account.user}\t{account.user}",
-            f"Gid:\t{account.group}\t{account.group}\t{account.group}\t{account.group}",
-            "Groups:\t ",
+            f"({user}, {user}, {user}) ({group}, {group}, {group}) []",
+            f"AS {ADDRESS_SPACE}",
             "CapPrm:\t0000000000000000",
             "CapEff:\t0000000000000000",
             "CapAmb:\t0000000000000000",
             "NoNewPrivs:\t1",
-            f"{ADDRESS_SPACE >> 10}",
+            "FSIZE 0",
+            "CORE 0",
             "the configuration",
             "MALLOC_ARENA_MAX=1",
             "MALLOC_MMAP_THRESHOLD_=2097152",
             "MALLOC_TRIM_THRESHOLD_=4194304",
         ):
-            self.assertIn(line.strip(), [each.strip() for each in said])
+            self.assertIn(line, said)
+
+    def said_by(self, text: str, world: World) -> list[str]:
+        """What a program prints in the place of `routerd`."""
+        with tempfile.TemporaryDirectory() as folder:
+            room = Room("one", Path(folder, "run"), Path(folder, "state"))
+            room.enter()
+            os.chmod(folder, 0o755)
+            with socket.socket(socket.AF_UNIX) as anybodys:
+                anybodys.bind(f"{folder}/socket")
+                anybodys.listen()
+                os.chmod(f"{folder}/socket", 0o777)
+                program = Path(folder, "routerd")
+                program.write_text(text.replace("SOCKET", f"{folder}/socket"))
+                program.chmod(0o755)
+                room.lend("routerd.conf", b"the configuration\n")
+                said: list[str] = []
+                with self.assertLogs("leafrunt.router"):
+                    router = Router(program, room.configuration, said.append, world)
+                    status = Path(f"/proc/{router.pid}/status").read_text().splitlines()
+                    ended = router.quit()
+            room.leave()
+        self.assertEqual(ended.status, 0, said)
+        return [each.strip() for each in said + status]
+
+    def test_what_it_reaches(self) -> None:
+        """Of another process of the same user, files, sockets and calls: nothing but its own file
+        and threads."""
+        world = isolated(self)
+        account = world.account
+        assert account
+        words = ["/bin/sleep", "60"]
+        with subprocess.Popen(words, user=account.user, group=account.group) as other:
+            try:
+                said = self.said_by(ATTEMPTS.replace("OTHER", str(other.pid)), world)
+            finally:
+                other.kill()
+        done = [each.removesuffix(" done") for each in said if each.endswith(" done")]
+        refused = [each for each in said if each.endswith(" refused")]
+        self.assertEqual((done, len(refused)), (["own file", "thread"], 14), said)
 
 
 class Lending(unittest.TestCase):

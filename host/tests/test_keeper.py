@@ -115,9 +115,16 @@ class StandInLink:
     interface: Any
     is_usable: bool = True
     index: int = 5
+    doubted_until: float = 0.0
+
+    def is_table_in_doubt(self, now: float) -> bool:
+        return now < self.doubted_until
 
     def next_hop(self, router_id: IPv4Address) -> IPv4Address:
         return IPv4Address("10.0.1.2") if router_id == TWO else IPv4Address("10.0.2.2")
+
+    def why_lost(self, _router_id: IPv4Address, _now: float) -> str:
+        return "no Hello for 8 s"
 
 
 class StandInRouter:
@@ -208,6 +215,18 @@ class Keeps(Waits):
         self.assertEqual(len(self.kernel.forwards()), 1)
         self.assertLessEqual(self.keeper._pace.due, first + SECONDS_ABSENT)
         self.look(first + SECONDS_ABSENT + 0.01)
+        self.assertEqual(self.kernel.forwards(), {})
+
+    def test_routes_that_are_gone_with_the_own_router_lsa(self) -> None:
+        """While a foreign one stands in its place `table` is no word on them."""
+        now = time.monotonic()
+        self.look(now)
+        self.router.table, self.links[1].doubted_until = self.router.table[:1], now + 5
+        for after in (1, 1.2, 4.9):
+            self.keeper._pace.woken(now + after)
+            self.look(self.keeper._pace.due)
+            self.assertEqual(len(self.kernel.forwards()), 1)
+        self.look(now + 5.1)
         self.assertEqual(self.kernel.forwards(), {})
 
     def test_a_kernel_that_fails_meanwhile(self) -> None:
@@ -331,6 +350,35 @@ class Keeps(Waits):
             with mock.patch("time.monotonic", return_value=now):
                 self.keeper._looked(now)
         self.assertEqual((ended, self.known.kept.error), ([], None))
+
+    def test_own_networks(self) -> None:
+        """A destination by a forwarding address in one isn't one of them."""
+        self.router.table = [b"10.0.1.0/24 intra 10 via 0", b"14.0.0.0/24 ext2 20 via 0"]
+        self.keeper._look(time.monotonic())
+        self.assertEqual((self.known.kept.table, self.known.kept.own), (2, 1))
+
+    def test_a_storm(self) -> None:
+        """It is woken at each change, and asks `routerd` no more often than it may look at the table:
+        each question costs both, and a table of thousands costs so much."""
+        looks = list[float]()
+
+        def table(_line: str) -> bytes:
+            looks.append(time.monotonic())
+            time.sleep(0.02)
+            return b"172.16.2.0/24 ext2 %d via 1\n" % len(looks)
+
+        self.router.ask_bytes = table  # type: ignore[method-assign]
+        asks = mock.Mock(side_effect=self.router.ask_list)
+        self.router.ask_list = asks  # type: ignore[method-assign]
+        with mock.patch.object(FakeNotices, "fileno", lambda _: self.waker.fileno()):
+            self.keeper.start()
+            began = time.monotonic()
+            while time.monotonic() - began < 2:
+                self.waker.wake()
+                time.sleep(0.005)
+            self.keeper.stop()
+        self.assertGreaterEqual(len(looks), 4)
+        self.assertLessEqual(asks.call_count, len(looks) + 2 / keeper.EACH + 2)
 
 
 class Hops(unittest.TestCase):

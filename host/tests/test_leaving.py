@@ -34,7 +34,7 @@ from leafrunt_host.lsas import (
 from leafrunt_host.packets import Packet, PacketType, lsas_of, read
 from leafrunt_host.status import neighbors_of
 from leafrunt_host.topology import Topology
-from tests.test_bridge import KEY, link, own_hello, plain
+from tests.test_bridge import KEY, THERE, link, own_hello, plain
 from tests.test_desk import known
 from tests.test_topology import EXTERNAL, router_lsa
 from tests.test_withheld import longer
@@ -148,7 +148,8 @@ class Leaving(unittest.TestCase):
         one.from_router(own_hello(), 0)
         self.assertEqual(one.update([]).to_wire, [])
         (sent,) = one.update([self.lsa]).to_wire
-        packet = Authentication((KEY,), SequenceNumbers()).from_wire(sent, 0)
+        packet = Authentication((KEY,), SequenceNumbers()).judged(sent, THERE, 0)
+        assert isinstance(packet, Packet)
         self.assertEqual(packet.type, PacketType.LINK_STATE_UPDATE)
         self.assertEqual((packet.router_id, lsas_of(packet.body)), (IPv4Address("1.1.1.1"), [self.lsa]))
 

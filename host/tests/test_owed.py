@@ -7,6 +7,7 @@ import unittest
 from dataclasses import replace
 
 from leafrunt_host.exchange import Side
+from leafrunt_host.interfaces import KernelState
 from leafrunt_host.link import Link
 from leafrunt_host.owed import MOST, Debts, Owed
 from leafrunt_host.packets import Packet, PacketType, read
@@ -67,6 +68,14 @@ class Debt(unittest.TestCase):
                 left = self.after(side, updates(EXTERNAL), acknowledgment(LATER))
                 self.assertEqual(left[0], owes[0] // 2)
 
+    def test_flushed(self) -> None:
+        """An acknowledgment of the instance before it was flushed isn't one of that (13.1)."""
+        flushed = b"\x0e\x10" + EXTERNAL[2:]
+        self.after(Side.ROUTER, updates(EXTERNAL), updates(flushed))
+        self.assertEqual(self.after(Side.WIRE, acknowledgment(EXTERNAL))[0], 1)
+        self.assertEqual(self.owed.by_neighbor, {EXTERNAL[3:12]})
+        self.assertEqual(self.after(Side.WIRE, acknowledgment(flushed)), NOTHING)
+
     def test_requests(self) -> None:
         """What was asked for isn't to be acknowledged."""
         self.assertEqual(self.after(Side.ROUTER, request(EXTERNAL, OTHER)), Debts(0, 2, 0, 0))
@@ -74,6 +83,16 @@ class Debt(unittest.TestCase):
         self.assertEqual(self.after(Side.WIRE, request(EXTERNAL)), Debts(0, 1, 0, 1))
         self.assertEqual(self.after(Side.ROUTER, updates(LATER)), Debts(0, 1, 0, 0))
         self.assertEqual(self.after(Side.WIRE, updates(OTHER, OTHER)), Debts(0, 0, 1, 0))
+
+    def test_a_link_that_is_lost(self) -> None:
+        """The adjacency goes with it (10.3): nobody owes anything."""
+        one = link()
+        one.from_router(own_hello(), 0)
+        one.from_wire(plain("BIRD Hello").encode(), THERE, 1)
+        one.from_router(own(updates(EXTERNAL)), 2)
+        self.assertEqual(one.owed.debts[0], 1)
+        one.kernel_is(KernelState(), 3)
+        self.assertEqual(one.owed.debts, NOTHING)
 
     def test_when(self) -> None:
         """The moment after which nobody owed anything."""

@@ -5,7 +5,6 @@ import socket
 import threading
 import time
 import unittest
-from collections import deque
 from dataclasses import replace
 from ipaddress import IPv4Address
 from types import SimpleNamespace
@@ -14,6 +13,7 @@ from unittest import mock
 from leafrunt_host import rehearsal
 from leafrunt_host.exchange import ROUTER_ROOM, Side
 from leafrunt_host.lsas import MAX_AGE, is_whole
+from leafrunt_host.owed import Owed
 from leafrunt_host.packets import (
     Description,
     Flags,
@@ -129,14 +129,19 @@ class Proxies(unittest.TestCase):
         self.assertEqual(proxy.heard(of_router(PacketType.LINK_STATE_REQUEST, bytes(12))), [])
 
     def test_acknowledgments(self) -> None:
-        """Of the LSAs of others; this router's own have to come to the neighbor itself."""
+        """Of what it has described; this router's own and all else has to come to the neighbor
+        itself."""
         proxy = Proxy(hello_of(HIGH), self.lsas, OWN)
         other = next(iter(self.lsas.values()))
-        (answer,) = proxy.heard(update_of(self.own, other))
+        newer = external("100.0.0.0/24", str(HIGH), sequence=FIRST + 1)
+        flushed = MAX_AGE.to_bytes(2, "big") + other[2:]
+        unknown = external("198.51.100.0/24", str(HIGH))
+        (answer,) = proxy.heard(update_of(self.own, other, newer, flushed, unknown))
         packet = read(answer)
         self.assertEqual(packet.type, PacketType.LINK_STATE_ACKNOWLEDGMENT)
         self.assertEqual(packet.body, other[:20])
-        self.assertEqual(proxy.heard(update_of(self.own)), [])
+        for each in (self.own, newer, flushed, unknown):
+            self.assertEqual(proxy.heard(update_of(each)), [])
         self.assertEqual(proxy.heard(of_router(PacketType.LINK_STATE_ACKNOWLEDGMENT, b"")), [])
 
 
@@ -165,11 +170,13 @@ class Rehearsals(unittest.TestCase):
         self.first = router_lsa(str(OWN), (P2P, str(HIGH), "10.0.1.1", 10), sequence=FIRST + 6)
         self.other = external("100.0.0.0/24", str(HIGH))
         self.watch(self.first, self.other)
+        self.owed = {number: Owed() for number in (1, 2)}
         patched = mock.patch.multiple(
             rehearsal,
             SECONDS_TO_FULL=0.4,
             SECONDS_TO_ORIGINATE=0.4,
             SECONDS_TO_FIND=0.4,
+            SECONDS_TO_OWE=0.4,
             LOOKED_EACH=0.01,
             TURN=0.01,
         )
@@ -182,7 +189,7 @@ class Rehearsals(unittest.TestCase):
     def begin(self, *numbers: int) -> Rehearsal:
         fresh = SimpleNamespace(router=self.router, udp=self.udp)
         hellos = {number: hello_of({1: HIGH, 2: LOW}[number]) for number in numbers}
-        it = Rehearsal(fresh, hellos, self.topology, OWN, self.ending)
+        it = Rehearsal(fresh, hellos, self.topology, OWN, self.ending, self.owed)
         self.addCleanup(it.close)
         return it
 
@@ -223,7 +230,7 @@ class Rehearsals(unittest.TestCase):
             self.routers[1].send(update_of(lsa).encode())
             if is_good:
                 it.originate()
-                self.assertEqual(it.sent[1], deque([update_of(lsa).encode()]))
+                self.assertEqual(it.sent[1], {lsa[KEY]: lsa})
                 continue
             with self.assertRaisesRegex(Stopped, "hasn't originated"):
                 it.originate()
@@ -278,6 +285,81 @@ class Rehearsals(unittest.TestCase):
         self.assertTrue(is_whole(gone))
         self.begin().catch_up()
 
+    def lacks(self, number: int, *lsas: bytes) -> None:
+        """The running one has sent these there, and they aren't acknowledged."""
+        self.watch(*lsas)
+        self.owed[number].passed(Side.ROUTER, update_of(*lsas), time.monotonic())
+
+    def has(self, number: int, *lsas: bytes) -> None:
+        body = b"".join(each[:20] for each in lsas)
+        packet = Packet(PacketType.LINK_STATE_ACKNOWLEDGMENT, HIGH, AREA, body)
+        self.owed[number].passed(Side.WIRE, packet, time.monotonic())
+
+    def described(self, it: Rehearsal, number: int) -> list[bytes]:
+        """The headers in a proxy's first Description, of which it is the slave or the master."""
+        opening = Description(8192, OPTIONS, Flags.I | Flags.M | Flags.MS, 5)
+        packet = of_router(PacketType.DATABASE_DESCRIPTION, opening.encode())
+        (answer,) = it._proxies[number].heard(packet)
+        said = Description.decode(read(answer).body)
+        if said.has(Flags.I):
+            more = Description(8192, OPTIONS, Flags.M, said.sequence)
+            (answer,) = it._proxies[number].heard(replace(packet, body=more.encode()))
+            said = Description.decode(read(answer).body)
+        return [each[2:] for each in said.headers]
+
+    def test_what_a_neighbor_lacks(self) -> None:
+        """Nobody describes it; once all are Full it is given where the neighbor has it, so that it
+        owes it to the other."""
+        late = external("100.0.1.0/24", str(HIGH))
+        self.lacks(1, late)
+        it = self.begin(1, 2)
+        for number in (1, 2):
+            self.assertEqual(self.described(it, number), [self.other[2:20]])
+        self.assertEqual(it.unowed(), [late[KEY]])
+        it.catch_up()
+        self.assertEqual((self.got(1), [each[2:] for each in self.got(2)]), ([], [late[2:]]))
+        it.owe()
+        it.catch_up()
+        self.assertEqual(self.got(1) + self.got(2), [])
+
+    def test_what_a_neighbor_has_not_flushed(self) -> None:
+        """It flushes what it had, and what others have flushed before its start it lets run out."""
+        flushed = MAX_AGE.to_bytes(2, "big")
+        gone, own = external("100.0.1.0/24", str(HIGH)), external("203.0.113.0/24", str(OWN))
+        self.watch(gone, own)
+        self.lacks(1, flushed + gone[2:], flushed + own[2:])
+        it = self.begin(1, 2)
+        with self.assertRaises(Stopped):
+            it.originate()
+        given = self.got(1) + self.got(2)
+        last = rehearsal.OLDEST.to_bytes(2, "big")
+        wanted = {last + gone[2:], last + own[2:]}
+        self.assertEqual({each for each in given if each[:2] == last}, wanted)
+        self.lacks(1, flushed + self.other[2:])
+        it.catch_up()
+        self.assertEqual(self.got(1), [])
+        self.assertIn(flushed + self.other[2:], self.got(2))
+
+    def test_what_comes_while_it_is_waited(self) -> None:
+        """It is given that too, and owes it: else nothing would come to an end while LSAs come."""
+        it, late = self.begin(1, 2), external("100.0.1.0/24", str(HIGH))
+        self.lacks(1, late)
+        with mock.patch.object(rehearsal, "CAUGHT_UP_EACH", 0.05):
+            it.owe()
+        self.assertEqual((self.got(1), [each[2:] for each in self.got(2)]), ([], [late[2:]]))
+
+    def test_what_both_neighbors_lack(self) -> None:
+        """It is waited for: the one that is given it isn't owed it."""
+        late = external("100.0.1.0/24", "4.4.4.4")
+        self.lacks(1, late)
+        self.lacks(2, late)
+        it = self.begin(1, 2)
+        it.catch_up()
+        with self.assertRaisesRegex(Stopped, "a neighbor hasn't acknowledged 1 LSAs: try again"):
+            it.owe()
+        self.has(1, late)
+        it.owe()
+
     def test_what_goes_to_the_wire(self) -> None:
         """Its last Updates of its own, and then a Hello, where it has sent one."""
         it = self.begin(1)
@@ -289,10 +371,35 @@ class Rehearsals(unittest.TestCase):
         it.find(lambda: {"10.0.1.0/24"})
         with self.assertRaises(Stopped):
             it.find(lambda: {"10.9.9.0/24"})
-        self.assertEqual(it.last_packets, {1: [own, hello]})
-        for _ in range(3 * rehearsal.MOST_SENT):
+        self.assertEqual(it.last_packets(()), {1: [own, hello]})
+        for _ in range(3):
             it._took(1, own)
-        self.assertEqual(len(it.last_packets[1]), rehearsal.MOST_SENT + 1)
+        self.assertEqual(it.last_packets(()), {1: [own, hello]})
+        self.owed[1].passed(Side.ROUTER, update_of(self.other), 0.0)
+        self.assertEqual(it.last_packets(()), {1: [own, hello]})
+        late = external("100.0.1.0/24", str(HIGH))
+        for is_owed in (False, True):
+            if is_owed:
+                self.lacks(1, late)
+            it._took(1, update_of(late).encode())
+            lsas = [lsa for each in it.last_packets(())[1][:-1] for lsa in lsas_of(read(each).body)]
+            self.assertEqual(late in lsas, is_owed)
+
+    def test_its_last_hello_names_who_is_full(self) -> None:
+        """Where HelloInterval is longer than all of this, its last one is its first, which names
+        nobody."""
+        it, first = self.begin(1, 2), Hello.decode(plain("BIRD Hello").body)
+        for number, names in ((1, ()), (2, (LOW,))):
+            body = replace(first, neighbors=names).encode()
+            self.routers[number].send(of_router(PacketType.HELLO, body).encode())
+        it.come_to_full()
+        it.find(lambda: {"10.0.1.0/24"})
+        for full, wanted in (({1, 2}, [(HIGH,), (LOW,)]), ({2}, [(), (LOW,)])):
+            last = it.last_packets(full)
+            hellos = [Hello.decode(read(last[each][-1]).body) for each in (1, 2)]
+            self.assertEqual([each.neighbors for each in hellos], wanted)
+            others = [replace(each, neighbors=first.neighbors) for each in hellos]
+            self.assertEqual(others, [first, first])
 
     def test_ends(self) -> None:
         """Of the box, and of the new `routerd`."""

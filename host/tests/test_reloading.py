@@ -38,6 +38,7 @@ from leafrunt_host.handover import Handover, Prepared
 from leafrunt_host.isolation import Account
 from leafrunt_host.redistribution import Redistribution, Source
 from leafrunt_host.kernel_settings import KernelSettings
+from leafrunt_host.programs import Attached
 from leafrunt_host.reloading import Reloader, claims_of
 from leafrunt_host.rooms import Room
 from leafrunt_host.router import RouterGone
@@ -92,6 +93,12 @@ class Running(Boxes):
         self.write()
         self.reloaded("destinations: 0 new or changed, 2 withdrawn")
         self.assertTrue(within(30, lambda: self.announced() == [wanted[0], wanted[2]]))
+
+    def test_an_interface_that_is_not_there(self) -> None:
+        self.up()
+        self.write('[[interface]]\nname = "tun9"\n')
+        self.reloaded("tun9: is awaited")
+        self.reloaded("nothing differs")
 
     def test_4096_destinations(self) -> None:
         self.up()
@@ -377,7 +384,7 @@ class Differing(unittest.TestCase):
         taken = {"announcements", "programs", "counters", "redistribution", "kernel", "interfaces"}
         taken |= {"log_level", "table"}
         anew = {"name", "path", "router_id", "routerd", "account"}
-        told = {"advice"}
+        told = {"advice", "awaited"}
         self.assertEqual(taken | anew | told, set(Configuration.__dataclass_fields__))
 
     def test_interfaces_that_come_and_go(self) -> None:
@@ -420,7 +427,12 @@ class Fakes:
             if not each.passive
         }
         self.known = SimpleNamespace(
-            configuration=old, links=links, by_hand=frozenset(), programs={}, sessions=None
+            configuration=old,
+            links=links,
+            by_hand=frozenset(),
+            programs={},
+            sessions=None,
+            history=SimpleNamespace(note=lambda *said: self.noted.append(said)),
         )
         self.parts = SimpleNamespace(
             bridge=self.bridge,
@@ -429,6 +441,7 @@ class Fakes:
             ports=[(7001, 7002), (7003, 7004)],
             link_of=lambda interface: f"link {interface.number}",
         )
+        self.noted: list[tuple[object, ...]] = []
         self.kernel: KernelTable | None = None
         self.answer = "attached veto bound 7"
         self.reloader = Reloader(
@@ -464,7 +477,7 @@ class Fakes:
         self.did.append(("kept", self.kernel))
         return True
 
-    def passed_on(self, line: str, is_by_hand: bool) -> list[str]:
+    def passed_on(self, line: str) -> list[str]:
         self.fails()
         self.did.append(line)
         return [self.answer]
@@ -670,13 +683,84 @@ class Taking(unittest.TestCase):
         self.assertEqual(it.reloader.reload(), ["/a.o: attached veto bound 9"])
         self.assertEqual(it.reloader.reload(), ["nothing differs"])
 
+    def test_dry_run(self) -> None:
+        """What would change, and nothing does."""
+        one, two = configuration().interfaces
+        it = self.fakes(configuration(one, two))
+        self.assertEqual(it.reloader.dry_run(), ["nothing differs"])
+        program = Program(Path("/a.o"), "veto", "1")
+        it.new = configuration(replace(one, cost=20, keys=KEYS), two, programs=(program,), log_level="debug")
+        said = [
+            "eth1: cost 20 in place of 10",
+            "another routerd takes over for that, and adjacencies stay",
+            "eth1: keys 1, 2",
+            "log_level: debug",
+            "veto: /a.o",
+        ]
+        self.assertEqual(it.reloader.dry_run(), said)
+        it.known.programs = {"veto": Attached("/b.o", 5, "root")}
+        it.known.by_hand = {"veto"}
+        self.assertIn("attached by hand stays", it.reloader.dry_run()[-1])
+        self.assertEqual(it.did, [])
+        it.new = replace(it.new, router_id=IPv4Address("9.9.9.9"))
+        self.assertRaisesRegex(Stopped, "needs a new start", it.reloader.dry_run)
+
+    def test_until_it_is_confirmed(self) -> None:
+        """It stays if that comes in time; else what was before stands again."""
+        one, two = configuration().interfaces
+        old = configuration(one, two)
+        new = configuration(one, two, log_level="debug")
+        it = self.fakes(old)
+        it.known.not_reloaded = it.known.unconfirmed = None
+        self.assertEqual(it.reloader.reload_until_confirmed(60), ["nothing differs"])
+        self.assertRaisesRegex(Stopped, "no reload waits", it.reloader.keep)
+        it.new = new
+        with mock.patch("leafrunt_host.reloading.set_level"):
+            said = it.reloader.reload_until_confirmed(60)
+            self.assertRegex(said[-1], r"^the last reload is taken back at \d{4}-")
+            self.assertEqual(it.known.unconfirmed, said[-1])
+            self.assertRaisesRegex(Stopped, "waits to be confirmed", it.reloader.reload)
+            self.assertEqual(it.reloader.keep(), ["the reload is confirmed"])
+            self.assertEqual(it.noted, [("box", "reload", None, "log_level: debug")])
+            self.assertIsNone(it.known.unconfirmed)
+            self.assertEqual(it.known.configuration.log_level, "debug")
+            it.new = old
+            it.reloader.reload()
+            it.new = new
+            with self.assertLogs("leafrunt.reload", "WARNING") as logged:
+                it.reloader.reload_until_confirmed(0.05)
+                it.reloader._taking_back.join(5)
+        self.assertEqual(it.known.configuration.log_level, "info")
+        self.assertIn("nobody confirmed the reload", logged.output[-1])
+        self.assertIn("the file has another one", it.known.not_reloaded)
+        self.assertEqual(it.reloader.dry_run(), ["log_level: debug"])
+
+    def test_a_refused_one_is_remembered(self) -> None:
+        """Until one is done: whoever looks at three in the morning has no other way to know."""
+        one, two = configuration().interfaces
+        it = self.fakes(configuration(one, two))
+        it.known.not_reloaded = None
+
+        def broken(_path: Path) -> Configuration:
+            raise Stopped("one.toml: cost: found 0\none.toml: name: found 1", Status.REFUSED)
+
+        read, it.reloader.read = it.reloader.read, broken
+        with self.assertLogs("leafrunt.reload", "WARNING"), self.assertRaises(Stopped) as stopped:
+            it.reloader.reload()
+        self.assertEqual(stopped.exception.status, Status.REFUSED)
+        said = r"^the last reload was refused at \d{4}-.*: one.toml: cost: found 0 \(and 1 more"
+        self.assertRegex(it.known.not_reloaded, said)
+        it.reloader.read = read
+        it.reloader.reload()
+        self.assertIsNone(it.known.not_reloaded)
+
     def test_what_a_new_routerd_gets(self) -> None:
         """The programs of the file as it is now, but those of the console where it has others; one
         that was detached there stays so while the file doesn't change."""
         one, two = configuration().interfaces
         files = {hook: Program(Path(f"/{hook}.o"), hook, "1") for hook in ("veto", "tag", "price")}
         it = self.fakes(configuration(one, two, programs=tuple(files.values())))
-        it.known.programs = {"veto": ("/by/hand.o", 7), "tag": ("/tag.o", 7)}
+        it.known.programs = {"veto": Attached("/by/hand.o", 7, "root"), "tag": Attached("/tag.o", 7)}
         it.known.by_hand = frozenset({"veto"})
         files["veto"] = Program(Path("/other.o"), "veto", "1")
         files["count"] = Program(Path("/count.o"), "count", "1")
@@ -734,7 +818,7 @@ class Handing(unittest.TestCase):
         )
         self.keeper, self.desk = mock.Mock(), mock.Mock(changing=threading.Lock())
         self.keeper.serve = mock.Mock(side_effect=self.serve)
-        self.is_stuck = lambda: False
+        self.is_stuck, self.unowed = lambda: False, list[bytes]()
         self.announcements, self.ending = mock.Mock(), threading.Event()
         self.handover = Handover(
             *(mock.Mock(begin_beside=lambda *_: self.fresh), self.parts, self.known, self.keeper),
@@ -747,10 +831,12 @@ class Handing(unittest.TestCase):
             raise Stopped("no answer within 10 seconds: nothing more is done")
         changed()
 
-    def run_it(self) -> None:
+    def run_it(self, *interfaces: InterfaceSettings) -> mock.Mock:
+        """The rehearsal."""
         with mock.patch("leafrunt_host.handover.Rehearsal") as made:
-            made.return_value = mock.Mock(numbers=set())
-            self.handover.run(configuration(), dict)
+            made.return_value = mock.Mock(numbers=set(), unowed=lambda: self.unowed)
+            self.handover.run(configuration(*interfaces), dict)
+            return made.return_value
 
     def assert_complete(self) -> None:
         """All go by the new one, and the old one has ended, once."""
@@ -764,6 +850,28 @@ class Handing(unittest.TestCase):
         self.run_it()
         self.keeper.serve.assert_called_once()
         self.assert_complete()
+
+    def test_what_it_has_to_find(self) -> None:
+        """All that the old one has, but where an interface is another one: nobody else may announce
+        the network that it had, or what was behind it."""
+        one, two = configuration().interfaces
+        for other, is_to_find in (
+            (replace(two, cost=20), True),
+            (replace(two, passive=True), False),
+            (settings("eth2", "10.0.9.1/24"), False),
+            (settings("eth3", "10.0.2.1/24"), False),
+        ):
+            self.setUp()
+            self.known.neighbors = {1: None}
+            self.assertEqual(self.run_it(one, other).find.called, is_to_find, other)
+
+    def test_what_nobody_would_owe(self) -> None:
+        """The old one goes on, and owes it."""
+        self.unowed = [bytes(9)]
+        with self.assertRaisesRegex(Stopped, "a neighbor hasn't acknowledged 1 LSAs: try again"):
+            self.run_it()
+        self.assertEqual((self.ended, self.given_up), ([self.new], []))
+        self.bridge.hand_over.assert_not_called()
 
     def test_a_look_that_waits_for_the_old_one(self) -> None:
         """That ends, and so does the look: the new one is served then."""

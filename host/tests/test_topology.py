@@ -10,6 +10,7 @@ from leafrunt_host.exchange import Side
 from leafrunt_host.kernel import KernelRoute, Way, route_to
 from leafrunt_host.lsas import (
     MAX_AGE,
+    LsHeader,
     body_of,
     header_of,
     is_newer,
@@ -18,7 +19,14 @@ from leafrunt_host.lsas import (
 )
 from leafrunt_host.packets import Packet, PacketType
 from leafrunt_host.rtnetlink import NextHop, Route
-from leafrunt_host.topology import Topology, database_lines, whole_lines
+from leafrunt_host.topology import (
+    Entry,
+    Topology,
+    database_lines,
+    is_of,
+    meant_by,
+    whole_lines,
+)
 
 EXTERNAL = bytes.fromhex(
     "00000205cb0071000101010180000001542900 24ffffff00800000140000000000000000"
@@ -95,6 +103,11 @@ def acknowledgment(*lsas: bytes) -> Packet:
     return Packet(
         PacketType.LINK_STATE_ACKNOWLEDGMENT, IPv4Address("1.1.1.1"), IPv4Address(0), body
     )
+
+
+def of(topology: Topology, text: str) -> list[tuple[LsHeader, Entry]]:
+    """The LSAs that are meant so."""
+    return [each for each in topology.entries() if is_of(meant_by(text), *each)]
 
 
 class Lsas(unittest.TestCase):
@@ -191,6 +204,21 @@ class Databases(unittest.TestCase):
             0,
         )
         self.assertEqual(self.instances(), [])
+
+    def test_by_network(self) -> None:
+        """Of two destinations with one address one has host bits in its Link State ID (RFC 2328,
+        appendix E)."""
+        body = external("198.51.100.0/24", "2.2.2.2")
+        self.sent(lsa(5, "198.51.100.255", "2.2.2.2", body[20:]))
+        self.sent(external("198.51.100.0/25", "2.2.2.2"), SUMMARY)
+        self.sent(router_lsa("2.2.2.2", (3, "198.51.100.0", "255.255.255.0", 1)))
+        found = [(header.key.type, str(header.key.id)) for header, _ in of(self.topology, "198.51.100.0/24")]
+        self.assertIn((5, "198.51.100.255"), found)
+        self.assertIn((1, "2.2.2.2"), found)
+        self.assertNotIn((5, "198.51.100.0"), found)
+        self.assertEqual(of(self.topology, "198.51.0.0/16"), [])
+        for wrong in ("198.51.100.1/24", "x", "1.2.3"):
+            self.assertRaises(ValueError, meant_by, wrong)
 
     def test_ages(self) -> None:
         self.sent(external("10.0.0.0/8", "1.1.1.1", age=30))
@@ -295,18 +323,18 @@ class Databases(unittest.TestCase):
             lines[2].split(), ["external", "203.0.113.0", "1.1.1.1", "80000001", "0", "5429"]
         )
         self.assertEqual(
-            whole_lines(self.topology, IPv4Address("203.0.113.0"))[2:],
+            whole_lines(of(self.topology, "203.0.113.0"))[2:],
             ["  mask 255.255.255.0, type 2, metric 20, forwarding address 0.0.0.0, tag 0"],
         )
         self.assertEqual(
-            whole_lines(self.topology, IPv4Address("1.1.1.1"))[2:],
+            whole_lines(of(self.topology, "1.1.1.1"))[2:],
             [
                 "  flags: AS boundary router",
                 "  link to the router 2.2.2.2, own address 10.0.1.1, metric 10",
                 "  stub network 10.0.1.0, mask 255.255.255.0, metric 10",
             ],
         )
-        self.assertEqual(whole_lines(self.topology, IPv4Address("9.9.9.9")), [])
+        self.assertEqual(of(self.topology, "9.9.9.9"), [])
 
 
 MASK = "255.255.255.0"

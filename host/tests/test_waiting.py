@@ -1,5 +1,5 @@
-"""LSAs that wait, in the bridge or by being dropped: own ones that come back at MaxAge too early, the
-own router-LSA until the kernel has its routes, and router-LSAs within MinLSArrival."""
+"""LSAs that wait in the bridge: own ones that come back at MaxAge too early, the own router-LSA
+until the kernel has its routes, and router-LSAs within MinLSArrival."""
 from __future__ import annotations
 
 import logging
@@ -8,13 +8,13 @@ from dataclasses import replace
 from ipaddress import IPv4Address
 from types import SimpleNamespace
 
-from leafrunt_host.arrivals import MIN_LS_ARRIVAL, Arrivals
+from leafrunt_host.arrivals import MIN_LS_ARRIVAL, MOST_KEPT, Arrivals
 from leafrunt_host.arrivals import MOST as MOST_GIVEN
 from leafrunt_host.bridge import Bridge
 from leafrunt_host.holding import LONGEST, MOST, Holding, own_router_lsa_in
 from leafrunt_host.link import EARLY, Link
 from leafrunt_host.lsas import MAX_AGE
-from leafrunt_host.own_lsas import MIN_LS_INTERVAL, OwnLsas
+from leafrunt_host.own_lsas import MIN_LS_INTERVAL, SECONDS_REPLACED, OwnLsas
 from leafrunt_host.packets import Packet, PacketType, lsas_of, read
 from tests.test_bridge import OWN, THERE, link, own, own_hello, plain
 from tests.test_topology import EXTERNAL, external, router_lsa
@@ -47,9 +47,9 @@ class OwnLsasThatComeBack(unittest.TestCase):
     def setUp(self) -> None:
         logging.disable(logging.WARNING)
         self.addCleanup(logging.disable, logging.NOTSET)
-        own_lsas = OwnLsas(100.0)
+        own_lsas, self.arrivals = OwnLsas(100.0), Arrivals()
         interface, numbers = link().interface, link().authentication._numbers
-        self.link = Link(interface, numbers, own_lsas=own_lsas)
+        self.link = Link(interface, numbers, own_lsas=own_lsas, arrivals=self.arrivals)
         self.link.from_router(own_hello(), 100)
 
     def given(self, now: float, *lsas: bytes) -> list[bytes]:
@@ -70,6 +70,32 @@ class OwnLsasThatComeBack(unittest.TestCase):
         self.assertEqual(self.given(200 + MIN_LS_INTERVAL, lsa), [lsa])
         self.assertEqual(self.link.counters[EARLY], 3)
 
+    def test_they_come_once_it_may(self) -> None:
+        """The newest one, without the neighbor's sending it again, which may come too early too:
+        with RxmtInterval as long as MinLSInterval it was ten seconds until others had the next."""
+        mine = external("192.0.2.0/24", "1.1.1.1")
+        self.link.from_router(sent(mine), 200)
+        for number in (3, 4, 2):
+            lsa = flushed(external("192.0.2.0/24", "1.1.1.1", sequence=FIRST + number))
+            self.assertEqual(self.given(200.1, lsa, EXTERNAL), [EXTERNAL])
+        forged = flushed(external("192.0.2.0/24", "1.1.1.1", sequence=FIRST + 9))
+        self.assertEqual(self.given(200.2, forged[:-1] + b"x"), [])
+        self.assertTrue(self.arrivals)
+        self.assertFalse(self.arrivals.is_waiting)
+        self.assertEqual([*self.arrivals.due(204.9)], [])
+        ((_, packet),) = self.arrivals.due(200 + MIN_LS_INTERVAL)
+        wanted = [flushed(external("192.0.2.0/24", "1.1.1.1", sequence=FIRST + 4))]
+        self.assertEqual(lsas_of(packet.body), wanted)
+        came = self.link.come_again(packet, 200 + MIN_LS_INTERVAL).to_router
+        self.assertEqual([lsas_of(read(each).body) for each in came], [wanted])
+        self.assertFalse(self.arrivals)
+
+    def test_bounds_of_what_waits(self) -> None:
+        for number in range(MOST_KEPT + 9):
+            prefix = str(IPv4Address(0x0A000000 + 256 * number)) + "/24"
+            self.given(101, flushed(external(prefix, "1.1.1.1")))
+        self.assertEqual(len(self.arrivals._kept), MOST_KEPT)
+
     def test_what_is_given_at_any_time(self) -> None:
         """An own LSA below MaxAge, those of others, and own ones that it has flushed itself."""
         mine = external("192.0.2.0/24", "1.1.1.1")
@@ -79,6 +105,52 @@ class OwnLsasThatComeBack(unittest.TestCase):
             self.assertEqual(self.given(201, lsa), [lsa])
         self.link.from_router(sent(flushed(mine)), 202)
         self.assertEqual(self.given(202.1, flushed(mine)), [flushed(mine)])
+
+
+class OwnRouterLsaReplaced(unittest.TestCase):
+    """Until `routerd` has originated its own again `table` isn't believed where it lacks routes."""
+
+    def setUp(self) -> None:
+        self.own_lsas = OwnLsas(100.0)
+        self.own_lsas.sent(OWN.packed, [own_lsa(TWO, number=3)], 100)
+
+    def in_doubt(self, lsa: bytes, now: float) -> bool:
+        self.own_lsas.came(OWN.packed, lsa, now)
+        return self.own_lsas.is_in_doubt(now)
+
+    def test_what_replaces_it(self) -> None:
+        last = router_lsa("1.1.1.1", STUB, sequence=0x7FFFFFFF)
+        for lsa in (own_lsa(STUB, number=4), flushed(own_lsa(TWO, number=3)), last):
+            self.setUp()
+            self.assertTrue(self.in_doubt(lsa, 200))
+            self.assertTrue(self.own_lsas.is_in_doubt(200 + SECONDS_REPLACED - 0.1))
+            self.assertFalse(self.own_lsas.is_in_doubt(200 + SECONDS_REPLACED))
+
+    def test_what_does_not(self) -> None:
+        """An older or the same one; another router's; one that `routerd` discards."""
+        later = own_lsa(STUB, number=4)
+        wrong = later[:-1] + bytes([later[-1] ^ 1])
+        for lsa in (own_lsa(number=2), own_lsa(TWO, number=3), of_two(9), EXTERNAL, wrong):
+            self.assertFalse(self.in_doubt(lsa, 200))
+
+    def test_until_it_is_originated_again(self) -> None:
+        """A flush isn't that, nor is the forged one, which is flooded first; nobody puts it off by
+        another forged one."""
+        self.assertTrue(self.in_doubt(own_lsa(STUB, number=9), 200))
+        self.own_lsas.sent(OWN.packed, [own_lsa(STUB, number=9)], 200)
+        self.own_lsas.sent(OWN.packed, [flushed(own_lsa(STUB, number=9))], 201)
+        self.assertTrue(self.own_lsas.is_in_doubt(203))
+        self.assertFalse(self.in_doubt(own_lsa(STUB, number=11), 211))
+        self.own_lsas.sent(OWN.packed, [own_lsa(TWO, number=12)], 212)
+        self.assertTrue(self.own_lsas.is_in_doubt(212.5))
+        self.assertFalse(self.own_lsas.is_in_doubt(214))
+
+    def test_at_a_link(self) -> None:
+        interface, numbers = link().interface, link().authentication._numbers
+        one = Link(interface, numbers, own_lsas=self.own_lsas)
+        one.from_router(own_hello(), 100)
+        one.from_wire(update(own_lsa(STUB, number=4)), THERE, 200)
+        self.assertTrue(one.is_table_in_doubt(201))
 
 
 class Held(unittest.TestCase):
@@ -189,6 +261,17 @@ class WithinMinLSArrival(unittest.TestCase):
         for number in (1, 2):
             lsa = external("192.0.2.0/24", "2.2.2.2", sequence=FIRST + number)
             self.assertFalse(self.waits(lsa, 10))
+
+    def test_a_wrong_checksum(self) -> None:
+        """It doesn't keep the instances that hold waiting, however high its sequence number is."""
+        forged = of_two(99, TWO)
+        forged = forged[:-1] + bytes([forged[-1] ^ 1])
+        self.assertFalse(self.waits(forged, 10))
+        self.assertFalse(self.waits(of_two(1), 10.1))
+        self.assertTrue(self.waits(of_two(2), 10.2))
+        self.assertFalse(self.waits(forged, 10.3))
+        ((_, packet),) = self.arrivals.due(11.2)
+        self.assertEqual(lsas_of(packet.body), [of_two(2)])
 
     def test_bounds(self) -> None:
         for number in range(MOST_GIVEN + 9):

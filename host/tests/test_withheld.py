@@ -6,15 +6,16 @@ from dataclasses import replace
 from ipaddress import IPv4Address
 from unittest import mock
 
+from leafrunt_host.commands import FIT
 from leafrunt_host.link import WITHHELD, Link
 from leafrunt_host.packets import Description, Flags, Packet, PacketType, lsas_of, read
+from leafrunt_host.places import MOST_LSAS, Places
 from leafrunt_host.withheld import (
     GIVEN_IN_VAIN,
     MAX_AGE,
     ROOM_AGAIN,
     SECONDS_BETWEEN,
     STUCK_AFTER,
-    Database,
     Withheld,
     fault,
     header_fault,
@@ -74,6 +75,12 @@ def request(*lsas: bytes) -> bytes:
     return own(replace(plain("BIRD Update"), type=PacketType.LINK_STATE_REQUEST, body=keys))
 
 
+def acknowledgment(*lsas: bytes) -> bytes:
+    """One of `routerd`."""
+    kind, headers = PacketType.LINK_STATE_ACKNOWLEDGMENT, b"".join(each[:20] for each in lsas)
+    return own(replace(plain("BIRD Update"), type=kind, body=headers))
+
+
 class Faults(unittest.TestCase):
     def test_what_is_read(self) -> None:
         flushed = MAX_AGE.to_bytes(2, "big") + EXTERNAL[2:]
@@ -87,6 +94,16 @@ class Faults(unittest.TestCase):
             with self.subTest(why):
                 self.assertIn(why, str(fault(lsa)))
 
+    def test_a_hub_of_more_links_than_are_read(self) -> None:
+        """It is told how many of them don't count, by the header too."""
+        links = [(3, f"10.{at >> 8}.{at & 255}.0", "255.255.255.0", 1) for at in range(679)]
+        self.assertIsNone(fault(router_lsa("1.1.1.1", *links[1:])))
+        why = "it has 8172 bytes, and at most 8164 are read: none of this router's 679 links counts"
+        lsa = router_lsa("1.1.1.1", *links)
+        self.assertEqual((fault(lsa), header_fault(lsa[:20])), (why, why))
+        self.assertIn(f"no router has more than {len(links) - 1} links", FIT)
+        self.assertIn(f"up to {MOST_LSAS} LSAs", FIT)
+
     def test_a_wrong_checksum(self) -> None:
         """Every router discards such an LSA, without an acknowledgment (13, step 1)."""
         for lsa in UNREAD.values():
@@ -96,8 +113,8 @@ class Faults(unittest.TestCase):
 
 class Links(unittest.TestCase):
     def setUp(self) -> None:
-        self.database = Database(1000)
-        self.link = Link(link().interface, link().authentication._numbers, database=self.database)
+        self.places = Places(1000)
+        self.link = Link(link().interface, link().authentication._numbers, places=self.places)
         self.link.from_router(own_hello(), 0)
         self.sequence = 0
         logging.disable(logging.WARNING)
@@ -128,7 +145,7 @@ class Links(unittest.TestCase):
         lsa = UNREAD["a link of it has the type 5"]
         forged = replace(read(update(lsa)), router_id=IPv4Address("4.4.4.4")).encode()
         to_router, to_wire = self.came(forged)
-        self.assertEqual((len(to_router), to_wire, len(self.database)), (1, [], 0))
+        self.assertEqual((len(to_router), to_wire, len(self.places)), (1, [], 0))
 
     def test_headers(self) -> None:
         """Those that tell by themselves, and those of instances that came, are left out of
@@ -203,14 +220,14 @@ class Links(unittest.TestCase):
 
     def test_links_share_their_limit(self) -> None:
         """It is `routerd`'s, of all links together."""
-        database = Database(1)
+        places = Places(1)
         links = [
-            Link(link().interface, link().authentication._numbers, database=database)
-            for _ in range(2)
+            Link(link().interface, link().authentication._numbers, places=places) for _ in range(2)
         ]
         for each, lsa in zip(links, (SUMMARY, OTHER)):
             each.from_router(own_hello(), 0)
             each.from_wire(update(lsa), THERE, 0)
+            each.from_router(acknowledgment(lsa), 0)
         self.assertEqual([each.counters[WITHHELD] for each in links], [0, 1])
 
     def test_what_is_flushed_is_told_of_no_longer(self) -> None:
@@ -228,40 +245,38 @@ def external(number: int, age: int = 1) -> bytes:
     return sealed(age.to_bytes(2, "big") + EXTERNAL[2:4] + net + EXTERNAL[8:])
 
 
-class Places(unittest.TestCase):
-    def test_externals_leave_places_for_the_area(self) -> None:
-        """However many externals come first: without router-LSAs there is no route to any."""
-        database = Database(10, no_externals=4)
-        taken = [database.takes(external(number), 0) for number in range(8)]
-        self.assertEqual(taken, [True] * 6 + [False] * 2)
-        self.assertTrue(database.takes(SUMMARY, 0))
-        self.assertFalse(database.takes(external(9), 0))
-
-
 class Limits(unittest.TestCase):
     def setUp(self) -> None:
-        self.database = Database(ROOM_AGAIN + 10)
-        self.withheld = Withheld(self.database)
+        self.places = Places(ROOM_AGAIN + 10)
+        self.withheld = Withheld(self.places)
+
+    def brought(self, lsas: list[bytes], now: float) -> tuple[int, int]:
+        """How many of an Update's LSAs are passed on, which `routerd` then acknowledges, and how
+        many are withheld."""
+        passed, withheld = self.withheld.updated(lsas, now)
+        self.withheld.sent(read(acknowledgment(*passed)), now)
+        return len(passed), len(withheld)
 
     def test_above_the_limit(self) -> None:
         most = ROOM_AGAIN + 10
         lsas = [external(number) for number in range(most + 5)]
-        passed, headers = self.withheld.updated(lsas, 0)
-        self.assertEqual((len(passed), len(headers)), (most, 5))
-        self.assertEqual(self.withheld.updated(lsas[:7], 1)[1], [])
+        self.assertEqual(self.brought(lsas[:most], 0), (most, 0))
+        self.assertEqual(self.brought(lsas[most:], 0), (0, 5))
+        self.assertEqual(self.brought(lsas[:7], 1), (7, 0))
         self.assertIn("more than 16384 LSAs", self.withheld.news[0])
         self.assertEqual(len(self.withheld.news), 1)
         (said,) = self.withheld.remarks(3)
-        self.assertIn("(5 LSAs are withheld)", said)
+        self.assertIn("(5 LSAs are withheld; 522 of the 522 there came by this link)", said)
         self.assertEqual(len(self.withheld.described([each[:20] for each in lsas], 2)), most)
 
     def test_the_way_back(self) -> None:
         """Once there is room, the exchange begins anew, so that the neighbor describes what was
         withheld; not again and again."""
         most = ROOM_AGAIN + 10
-        self.withheld.updated([external(number) for number in range(most + 5)], 0)
+        self.brought([external(number) for number in range(most)], 0)
+        self.brought([external(number) for number in range(most, most + 5)], 0)
         self.assertFalse(self.withheld.has_room_again(10))
-        self.withheld.updated([external(number, MAX_AGE) for number in range(most - 10)], 20)
+        self.brought([external(number, MAX_AGE) for number in range(most - 10)], 20)
         self.assertTrue(self.withheld.has_room_again(30))
         self.assertFalse(self.withheld.has_room_again(30 + SECONDS_BETWEEN / 2))
         self.assertTrue(self.withheld.has_room_again(30 + SECONDS_BETWEEN))
@@ -272,10 +287,11 @@ class Limits(unittest.TestCase):
     def test_an_exchange_comes_to_its_end(self) -> None:
         """However long it takes: what is withheld may be described by its last packet."""
         most = ROOM_AGAIN + 10
-        self.withheld.updated([external(number) for number in range(most + 5)], 0)
+        self.brought([external(number) for number in range(most)], 0)
+        self.brought([external(number) for number in range(most, most + 5)], 0)
         self.withheld.begun(20)
         self.withheld.described([external(most)[:20]], 20)
-        self.withheld.updated([external(number, MAX_AGE) for number in range(most - 10)], 20)
+        self.brought([external(number, MAX_AGE) for number in range(most - 10)], 20)
         for now in range(22, 52):
             self.assertFalse(self.withheld.has_room_again(now))
             self.withheld.described([external(most - 1 - now % 10)[:20]], now)
@@ -284,10 +300,11 @@ class Limits(unittest.TestCase):
     def test_those_withheld_are_gone(self) -> None:
         """A neighbor that was started anew describes them no more, and flushes none of them."""
         most = ROOM_AGAIN + 10
-        self.withheld.updated([external(number) for number in range(most + 5)], 0)
+        self.brought([external(number) for number in range(most)], 0)
+        self.brought([external(number) for number in range(most, most + 5)], 0)
         self.withheld.begun(20)
         self.withheld.described([external(number)[:20] for number in range(10)], 20)
-        self.withheld.updated([external(number, MAX_AGE) for number in range(10, most)], 21)
+        self.brought([external(number, MAX_AGE) for number in range(10, most)], 21)
         self.assertEqual(list(self.withheld.remarks(99)), [])
         self.assertFalse(self.withheld.has_room_again(99))
 
@@ -295,72 +312,87 @@ class Limits(unittest.TestCase):
         """They are told of still, and the log says it no more than once a minute."""
         most = ROOM_AGAIN + 10
         lsas = [external(number) for number in range(most + 5)]
-        self.withheld.updated(lsas, 0)
+        self.brought(lsas[:most], 0)
+        self.brought(lsas[most:], 0)
         for now in range(5, 50, 5):
             self.withheld.begun(now)
             self.withheld.described([each[:20] for each in lsas], now)
             (said,) = self.withheld.remarks(now)
-            self.assertIn("(5 LSAs are withheld)", said)
+            self.assertIn("(5 LSAs are withheld; 522 of the 522 there came by this link)", said)
         self.assertEqual(len(self.withheld.news), 1)
 
     def test_a_flood(self) -> None:
         """What is known of what is withheld has a bound, and so has what was promised."""
+        most = ROOM_AGAIN + 10
         with mock.patch("leafrunt_host.withheld.MOST_ABOVE", 1000):
             for at in range(10):
                 lsas = [external(1000 * at + number) for number in range(1000)]
-                self.withheld.updated(lsas, 0)
+                for first in range(0, 1000, 100):
+                    self.brought(lsas[first : first + 100], 0)
                 self.withheld.described([each[:20] for each in lsas], 0)
             (said,) = self.withheld.remarks(1)
-        sizes = [len(self.withheld._above), len(self.withheld._promised), len(self.database)]
-        self.assertEqual(sizes, [1000, 0, ROOM_AGAIN + 10])
-        self.assertIn("(1000 LSAs or more are withheld)", said)
+        sizes = [len(self.withheld._above), len(self.withheld._promised), len(self.places)]
+        self.assertEqual((sizes[0], sizes[1]), (1000, 0))
+        self.assertIn(sizes[2], range(most - 100, most + 1))
+        self.assertIn("(1000 LSAs or more are withheld; ", said)
 
     def test_a_flood_of_what_is_flushed(self) -> None:
-        """Headers at MaxAge promise nothing that has a place, and neither does what was flushed
-        after it was described: a neighbor may describe ever other ones."""
-        with mock.patch("leafrunt_host.withheld.MOST_LSAS", 100):
-            for number in range(300):
-                lsas = external(2 * number, MAX_AGE), external(2 * number + 1)
-                self.withheld.described([each[:20] for each in lsas], 0)
-                self.database.takes(external(2 * number + 1, MAX_AGE), 0)
-        self.assertLessEqual(len(self.withheld._promised), 100)
+        """Headers at MaxAge promise nothing that has a place; of others there are no more than
+        places are free, and the next exchange forgets them."""
+        for number in range(2 * ROOM_AGAIN):
+            lsas = external(2 * number, MAX_AGE), external(2 * number + 1)
+            self.withheld.described([each[:20] for each in lsas], 0)
+        self.assertEqual(len(self.withheld._promised), ROOM_AGAIN + 10)
+        self.withheld.begun(1)
+        self.assertEqual(len(self.withheld.described([external(1)[:20]], 1)), 1)
 
     def test_those_withheld_are_flushed(self) -> None:
         most = ROOM_AGAIN + 10
-        self.withheld.updated([external(number) for number in range(most + 5)], 0)
-        self.withheld.updated([external(number, MAX_AGE) for number in range(most, most + 5)], 1)
+        self.brought([external(number) for number in range(most)], 0)
+        self.brought([external(number) for number in range(most, most + 5)], 0)
+        self.brought([external(number, MAX_AGE) for number in range(most, most + 5)], 1)
         self.assertEqual(list(self.withheld.remarks(99)), [])
 
     def test_what_was_only_described(self) -> None:
-        """An exchange that ends in between leaves no room taken."""
-        self.withheld.described([external(number)[:20] for number in range(100)], 0)
-        self.withheld.updated([external(number) for number in range(10)], 1)
-        self.assertEqual(len(self.database), 100)
-        self.withheld.begun(2)
-        self.assertEqual(len(self.database), 10)
+        """It takes no place, and keeps no other link's LSAs out."""
+        self.withheld.described([external(number)[:20] for number in range(ROOM_AGAIN + 10)], 0)
+        self.assertEqual(self.withheld.described([external(9999)[:20]], 0), ())
+        self.assertEqual(len(self.places), 0)
+        other = Withheld(self.places)
+        self.assertEqual(len(other.updated([external(8888)], 0)[0]), 1)
+
+    def test_what_was_described_and_comes_by_another_link(self) -> None:
+        """It needs no second place."""
+        other = Withheld(self.places)
+        lsas = [external(number) for number in range(400)]
+        self.withheld.described([each[:20] for each in lsas], 0)
+        for first in range(0, 400, 100):
+            passed, _ = other.updated(lsas[first : first + 100], 0)
+            other.sent(read(acknowledgment(*passed)), 0)
+        more = [external(number)[:20] for number in range(500, 580)]
+        self.assertEqual(len(self.withheld.described(more, 1)), 80)
 
     def test_what_ran_out(self) -> None:
         """An LSA that nobody refreshes is gone from each database after an hour."""
         most = ROOM_AGAIN + 10
-        self.withheld.updated([external(number) for number in range(most)], 0)
-        self.assertEqual(len(self.withheld.updated([external(most)], MAX_AGE - 1)[1]), 1)
-        self.assertEqual(len(self.withheld.updated([external(most)], MAX_AGE + 1)[1]), 0)
+        self.brought([external(number) for number in range(most)], 0)
+        self.assertEqual(self.brought([external(most)], MAX_AGE - 1), (0, 1))
+        self.assertEqual(self.brought([external(most)], MAX_AGE + 1), (1, 0))
 
     def test_the_limit_costs_little(self) -> None:
-        """Its keys aren't looked through for each LSA above it."""
+        """The places aren't looked through for each LSA above it."""
         most = ROOM_AGAIN + 10
-        self.withheld.updated([external(number) for number in range(most)], 0)
-        looked = mock.Mock(wraps=self.database.forget)
-        with mock.patch.object(self.database, "forget", looked):
+        self.brought([external(number) for number in range(most)], 0)
+        with mock.patch("leafrunt_host.places.older_than", return_value=[]) as looked:
             for number in range(100):
-                self.withheld.updated([external(most + number)], 1 + number / 10)
-        self.assertLessEqual(looked.call_count, 1)
+                self.brought([external(most + number)], 1 + number / 1000)
+        self.assertLessEqual(looked.call_count, 2)
 
     def test_what_the_router_originates(self) -> None:
-        self.database.sent([external(1), external(2)], 0)
-        self.assertEqual(len(self.database), 2)
-        self.database.sent([external(1, MAX_AGE)], 1)
-        self.assertEqual(len(self.database), 1)
+        self.places.sent([external(1), external(2)], 0)
+        self.assertEqual(len(self.places), 2)
+        self.places.sent([external(1, MAX_AGE)], 1)
+        self.assertEqual(len(self.places), 1)
 
 
 if __name__ == "__main__":

@@ -15,8 +15,8 @@ from dataclasses import dataclass, field, replace
 from datetime import datetime
 
 from tests.network import (
-    COMES_UP,
     HOST,
+    TIMERS,
     Bfd,
     Bird,
     Box,
@@ -263,7 +263,7 @@ class Watched:
         """Waits until no adjacency of a box's has come or gone for so long that its next router-LSA
         need not wait; which line of its log comes next then. (On a busy machine FRR may begin an
         adjacency anew some seconds after it was Full.)"""
-        until, since = time.monotonic() + 2 * COMES_UP, 0
+        until, since = time.monotonic() + 2 * TIMERS.comes_up, 0
         while time.monotonic() < until:
             since = len(self.box_log()) if self.heard else 0
             time.sleep(SETTLED)
@@ -304,7 +304,7 @@ class Watched:
         """Whether nothing has changed at either end since that line of the log, but by the other end's
         silence, after which all is well again; what has."""
         of_box, of_other = falls_of(self.box_log()[since:], self.heard)
-        is_well = self.is_up() or (of_other and within(COMES_UP, self.is_up) is not None)
+        is_well = self.is_up() or (of_other and within(TIMERS.comes_up, self.is_up) is not None)
         changes = [] if of_other else self.changes(since)
         return bool(is_well and not of_box and not changes), "; ".join([*of_box, *of_other, *changes])
 
@@ -382,7 +382,7 @@ def named(key: Secret | None) -> str:
 
 def told_outages(given: Try, it: Watched, who: str, times: int = TIMES) -> None:
     looks = given.looks
-    if not looks.timed(f"{who}: Full, and both sessions Up", COMES_UP, it.is_up):
+    if not looks.timed(f"{who}: Full, and both sessions Up", TIMERS.comes_up, it.is_up):
         return
     bridge = it.bridges[0]
     seconds = [
@@ -410,7 +410,7 @@ def undisturbed(it: Watched, fail: Callable[[], None], mend: Callable[[], None])
         if it.heard and MOST < seconds:
             print(*(f"     the box: {each}" for each in lines[-20:]), sep="\n", flush=True)
         mend()
-        if within(COMES_UP, it.is_up) is None:
+        if within(TIMERS.comes_up, it.is_up) is None:
             return math.inf
         of_box, _ = falls_of(it.box_log()[since:] if it.heard else [], it.heard)
         _, of_other = falls_of(lines, it.heard)
@@ -425,7 +425,7 @@ def undisturbed(it: Watched, fail: Callable[[], None], mend: Callable[[], None])
 def one_way(given: Try, it: Watched) -> None:
     """The first link fails in one direction alone: one end is told by the other."""
     looks, bridge = given.looks, it.bridges[0]
-    looks.timed("Full, and both sessions Up", COMES_UP, it.is_up)
+    looks.timed("Full, and both sessions Up", TIMERS.comes_up, it.is_up)
     for end, what in enumerate(("from the neighbor", "to the neighbor")):
         seconds = undisturbed(
             it,
@@ -439,7 +439,7 @@ def one_way(given: Try, it: Watched) -> None:
 def wrong_key(given: Try, it: Watched) -> None:
     looks = given.looks
     assert isinstance(it.tried, Box)
-    looks.timed("a neighbor with another key of BFD's: Full", COMES_UP, it.is_adjacent)
+    looks.timed("a neighbor with another key of BFD's: Full", TIMERS.comes_up, it.is_adjacent)
     looks.timed("`leafrunt status` says why", 10, lambda: is_said(it.tried, "wrong digest"))
     time.sleep(5)
     states = it.sessions()
@@ -449,7 +449,7 @@ def wrong_key(given: Try, it: Watched) -> None:
 
 def without(given: Try, it: Watched) -> None:
     looks = given.looks
-    looks.timed("a neighbor without BFD: Full", COMES_UP, it.is_adjacent)
+    looks.timed("a neighbor without BFD: Full", TIMERS.comes_up, it.is_adjacent)
     time.sleep(10)
     is_left = it.is_adjacent() and not it.changes() and it.sessions() == ["Down", "Down"]
     looks.look("it stays Full, without a session", is_left)
@@ -458,7 +458,7 @@ def without(given: Try, it: Watched) -> None:
 def forged(given: Try, it: Watched) -> None:
     """From the neighbor's machine: what would be true of the neighbor's own address and TTL."""
     looks = given.looks
-    looks.timed("Full, and both sessions Up", COMES_UP, it.is_up)
+    looks.timed("Full, and both sessions Up", TIMERS.comes_up, it.is_up)
     run("ip", "-n", it.far, "addr", "add", "10.0.1.9/24", "dev", "eth1")
     for source, ttl, what in (
         ("10.0.1.9", 255, "another source"),
@@ -478,7 +478,7 @@ def forged(given: Try, it: Watched) -> None:
 def flooded(given: Try, it: Watched) -> None:
     """In the neighbor's name, from its machine, by somebody who doesn't see its packets."""
     looks = given.looks
-    looks.timed("Full, and both sessions Up", COMES_UP, it.is_up)
+    looks.timed("Full, and both sessions Up", TIMERS.comes_up, it.is_up)
     words = ["ip", "netns", "exec", it.far, sys.executable, "-c", FLOOD]
     since = len(it.box_log())
     sent = run(*words, HOST, SECONDS_OF_FLOOD, RATE).strip()
@@ -489,7 +489,7 @@ def flooded(given: Try, it: Watched) -> None:
 def killed(given: Try, it: Watched) -> None:
     """Twice: neither end notices it, before nor after the second."""
     looks, who = given.looks, type(it.neighbor).__name__
-    looks.timed(f"{who}: Full, and both sessions Up", COMES_UP, it.is_up)
+    looks.timed(f"{who}: Full, and both sessions Up", TIMERS.comes_up, it.is_up)
     since = len(it.box_log())
     for pause in (3, 1):
         first = it.process()
@@ -502,7 +502,7 @@ def killed(given: Try, it: Watched) -> None:
 def admin_down(given: Try, it: Watched) -> None:
     """FRR's `shutdown`; BIRD has nothing that sends AdminDown."""
     looks = given.looks
-    looks.timed("Full, and both sessions Up", COMES_UP, it.is_up)
+    looks.timed("Full, and both sessions Up", TIMERS.comes_up, it.is_up)
     assert isinstance(it.neighbor, Frr)
     before = len(it.changes())
     words = ("configure terminal", "bfd", "peer 10.0.1.1 interface eth1", "shutdown")
@@ -581,14 +581,14 @@ def bfd_load(given: Try) -> None:
     """Ten minutes at a load of 8: no session of a box falls; beside it one of BIRD's with FRR."""
     it, looks = Between(given), given.looks
     it.start()
-    looks.timed("all sessions are Up", COMES_UP, it.is_up)
+    looks.timed("all sessions are Up", TIMERS.comes_up, it.is_up)
     time.sleep(5)
     before, end = it.of_bird(), time.monotonic() + SECONDS_OF_LOAD
     while time.monotonic() < end:
         it.load.look()
         time.sleep(10)
     of_box, of_other = falls_of(it.box.log_lines(), it.heard)
-    is_well = it.is_up() or (of_other and within(COMES_UP, it.is_up) is not None)
+    is_well = it.is_up() or (of_other and within(TIMERS.comes_up, it.is_up) is not None)
     late = max(each["late_seconds"] for each in it.reports()) * 1000  # type: ignore[type-var]
     said = f"mean load {statistics.mean(it.load.seen):.1f}, {late:.1f} ms late at most; "
     what = f"{SECONDS_OF_LOAD} s: no session of the box's falls by its fault"

@@ -10,11 +10,10 @@ from datetime import datetime, timedelta
 from pathlib import Path
 
 from tests.network import (
-    COMES_UP,
-    DEAD_INTERVAL,
     HOST,
     MD5,
     SHA,
+    TIMERS,
     Announce,
     Bird,
     Box,
@@ -32,6 +31,9 @@ from tests.network import (
     within,
 )
 
+MIN_LS_INTERVAL = 5
+"""Seconds (RFC 2328, B)."""
+
 
 class Line:
     """BIRD 2.2.2.2 - a box - FRR 3.3.3.3, each link with an MTU, direct or by wires that lose
@@ -44,9 +46,9 @@ class Line:
         mtu: int = 1500,
         has_keys: bool = False,
         is_wired: bool = False,
-        dead: int = DEAD_INTERVAL,
+        dead: int | None = None,
     ) -> None:
-        self.network = given.network
+        self.network, dead = given.network, dead or TIMERS.dead
         bird, box, frr = (self.network.namespace(each) for each in ("bird", "box", "frr"))
         link = self.network.wired if is_wired else self.network.link
         link(End(box, "to-bird", "10.0.1.1/24"), End(bird, "eth1", "10.0.1.2/24"), mtu)
@@ -203,7 +205,7 @@ def limits(given: Try) -> None:
     )
     it.bird.stub_networks = [f"198.18.{each}.0/24" for each in range(200)]
     it.start()
-    looks.timed("Full with both", COMES_UP, it.is_up)
+    looks.timed("Full with both", TIMERS.comes_up, it.is_up)
     settings(it, looks)
     long_lsas(it, looks)
     too_long_lsa(it, looks)
@@ -276,7 +278,7 @@ def changed_mtu(it: Line, looks: Looks) -> None:
     it.bird.stop()
     looks.timed("an MTU that changes is told", 5, lambda: is_said(it.box, "its MTU is 1400 now"))
     it.bird.start()
-    looks.timed("and followed: Full at MTU 1400", COMES_UP, it.is_up)
+    looks.timed("and followed: Full at MTU 1400", TIMERS.comes_up, it.is_up)
 
 
 def changed_address(it: Line, looks: Looks) -> None:
@@ -292,7 +294,7 @@ def changed_address(it: Line, looks: Looks) -> None:
     looks.timed("its routes leave the kernel's table", 4, lambda: len(it.box.kernel_routes()) < 10)
     run("ip", "-n", own, "addr", "add", "10.0.1.1/24", "dev", "to-bird")
     run("ip", "-n", own, "addr", "del", "10.0.9.1/24", "dev", "to-bird")
-    looks.timed("it's back: Full again", COMES_UP, it.is_up)
+    looks.timed("it's back: Full again", TIMERS.comes_up, it.is_up)
 
 
 FORGE = """
@@ -320,7 +322,7 @@ def forged(it: Line, looks: Looks) -> None:
 
     lines, before = len(it.box.log_lines()), memory()
     run("ip", "netns", "exec", it.bird.namespace, sys.executable, "-c", FORGE, HOST)
-    time.sleep(DEAD_INTERVAL + 2)
+    time.sleep(TIMERS.dead + 2)
     new, more = len(it.box.log_lines()) - lines, memory() - before
     looks.look(
         "20,000 forged packets of other Router IDs: few lines in the log", new <= 30, f"{new}"
@@ -347,7 +349,7 @@ def peers(given: Try) -> None:
     box = Box(network, given.routerd, own, "box", "1.1.1.1", [side])
     box.start()
     bird.start()
-    looks.timed("Full", COMES_UP, lambda: is_full(box, "2.2.2.2") and is_full(bird, "1.1.1.1"))
+    looks.timed("Full", TIMERS.comes_up, lambda: is_full(box, "2.2.2.2") and is_full(bird, "1.1.1.1"))
     wanted = {"172.16.1.0/24": ["198.51.100.7"]}
 
     def has() -> bool:
@@ -366,15 +368,14 @@ def peers(given: Try) -> None:
 def rollover(given: Try) -> None:
     """Key 5 is used for some seconds more, then key 6; both ends know both."""
     it, looks = Line(given), given.looks
-    now = datetime.now().astimezone()
-    change = now + timedelta(seconds=30)
+    change = datetime.now().astimezone() + timedelta(seconds=TIMERS.comes_up - 10)
     old, new = replace(SHA, ends=change), Secret(6, "hmac sha512", "the next one", begins=change)
     side = Side("eth1", (old, new))
     it.bird.sides[0] = side
     it.box.sides[0] = replace(side, name="to-bird")
     it.start()
-    looks.timed("two keys with lifetimes at both ends: Full", COMES_UP, it.is_up)
-    while datetime.now().astimezone() < change + timedelta(seconds=2 * DEAD_INTERVAL):
+    looks.timed("two keys with lifetimes at both ends: Full", TIMERS.comes_up, it.is_up)
+    while datetime.now().astimezone() < change + timedelta(seconds=2 * TIMERS.dead):
         time.sleep(1)
     refused = [line for line in it.box.log_lines() if "refused" in line or "digest" in line]
     looks.look(
@@ -404,16 +405,18 @@ def links(given: Try) -> None:
     def has(*hops: str) -> bool:
         return sorted(box.kernel_routes().get("172.16.2.0/24", [])) == list(hops)
 
-    both = ("10.0.1.2", "10.0.2.2")
-    looks.timed("FRR's network has two next hops", COMES_UP, lambda: has(*both))
+    both, seen = ("10.0.1.2", "10.0.2.2"), network.work / "notices"
+    looks.timed("FRR's network has two next hops", TIMERS.comes_up, lambda: has(*both))
+    network.start(own, ["ip", "monitor", "route"], seen)
     run("ip", "-n", own, "link", "set", "eth2", "down")
     looks.timed("one link down here: one next hop", 4, lambda: has(both[0]))
+    looks.timed("who follows the kernel's notices sees it", 4, lambda: is_one_way(seen.read_text()))
     run("ip", "-n", own, "link", "set", "eth2", "up")
-    looks.timed("up again: two", COMES_UP, lambda: has(*both))
+    looks.timed("up again: two", TIMERS.comes_up, lambda: has(*both))
     run("ip", "-n", far, "link", "set", "eth2", "down")
     looks.timed("one link down there: one next hop", 4, lambda: has(both[0]))
     run("ip", "-n", far, "link", "set", "eth2", "up")
-    looks.timed("up again: two", COMES_UP, lambda: has(*both))
+    looks.timed("up again: two", TIMERS.comes_up, lambda: has(*both))
     before, gone = len(box.log_lines()), "eth2: the kernel has no"
     run("ip", "-n", own, "link", "del", "eth2")
     looks.timed(
@@ -424,22 +427,69 @@ def links(given: Try) -> None:
     looks.look("and by `leafrunt status`", is_said(box, gone))
     looks.timed("and one next hop", 4, lambda: has(both[0]))
     network.link(*ends["eth2"])
-    looks.timed("it is made again: two", COMES_UP, lambda: has(*both))
+    looks.timed("it is made again: two", TIMERS.comes_up, lambda: has(*both))
     status = box.stop()
     looks.look("the end", status == 0 and has(), f"status {status}")
     frr.stop()
 
 
+OUTAGE, SETTLED = 30, 30
+"""Seconds without a link, less than RouterDeadInterval at the default, and seconds after it in which
+the adjacency may not begin anew."""
+
+
+def outage(given: Try) -> None:
+    """A link that is lost for less than RouterDeadInterval and comes back: it has no neighbor
+    meanwhile, and the adjacency comes once, soon after it."""
+    network, looks = given.network, given.looks
+    own, far = network.namespace("box"), network.namespace("bird")
+    network.link(End(own, "eth1", "10.0.1.1/24"), End(far, "eth1", "10.0.1.2/24"))
+    side = Side("eth1", (SHA,))
+    bird = Bird(network, far, "2.2.2.2", [side])
+    box = Box(network, given.routerd, own, "box", "1.1.1.1", [side])
+    box.start()
+    bird.start()
+
+    def is_up() -> bool:
+        return is_full(box, "2.2.2.2") and is_full(bird, "1.1.1.1")
+
+    looks.timed("Full", TIMERS.comes_up, is_up)
+    before = len(box.log_lines())
+    run("ip", "-n", far, "link", "set", "eth1", "down")
+    looks.timed("a link is lost: `status` has no neighbor there", 3, lambda: neighbor_of(box) is None)
+    time.sleep(OUTAGE)
+    run("ip", "-n", far, "link", "set", "eth1", "up")
+    looks.timed(f"it is back after {OUTAGE} s: Full", TIMERS.hello + 5, is_up)
+    time.sleep(SETTLED)
+    said = [each for each in box.log_lines()[before:] if "-> Full" in each or "Full ->" in each]
+    looks.look("the adjacency went once and came once", len(said) == 2, "; ".join(said))
+    box.stop()
+    bird.stop()
+
+
+def neighbor_of(box: Box) -> object:
+    """What the status has of the neighbor at its interface."""
+    (interface,) = box.reported()["interfaces"] or [{"neighbor": "no status"}]
+    return interface["neighbor"]
+
+
+def is_one_way(notices: str) -> bool:
+    """Whether the last one of FRR's network has a next hop and no list of them."""
+    last = [each for each in notices.splitlines() if "172.16.2.0/24" in each][-1:]
+    return "via 10.0.1.2" in "".join(last)
+
+
 def again(given: Try) -> None:
     """A destination is withdrawn, and announced again while FRR keeps what was flushed."""
     it, looks, prefix = Line(given), given.looks, "203.0.113.0/24"
+    it.box.sides = [replace(each, retransmit=MIN_LS_INTERVAL) for each in it.box.sides]
 
     def are_there() -> list[bool]:
         names = (it.bird.namespace, it.frr.namespace)
         return [prefix in output("ip", "-n", each, "-4", "route", "show", prefix) for each in names]
 
     it.start()
-    looks.timed("a box between BIRD and FRR: Full", COMES_UP, it.is_up)
+    looks.timed("a box between BIRD and FRR: Full", TIMERS.comes_up, it.is_up)
     it.box.ask(f"add {prefix} 20 2 0")
     looks.timed("a destination is announced: both have it", 20, lambda: all(are_there()))
     time.sleep(6)
@@ -447,8 +497,9 @@ def again(given: Try) -> None:
     looks.timed("withdrawn: neither has it", 20, lambda: not any(are_there()))
     time.sleep(6)
     it.box.ask(f"add {prefix} 20 2 0")
-    # (until FRR is told of a newer instance; that its flushed one goes to BIRD first is RFC 2328, 13.4)
-    time.sleep(10)
-    looks.timed("announced again: both have it", 10, lambda: all(are_there()))
+    looks.timed("announced again: FRR has it", MIN_LS_INTERVAL + 2, lambda: are_there()[1])
+    # (FRR's flushed one goes to BIRD first, RFC 2328, 13.4: within MinLSArrival of that BIRD takes no
+    # other, and gets it after RxmtInterval)
+    looks.timed("and both have it", MIN_LS_INTERVAL + 2, lambda: all(are_there()))
     looks.look("and keep it", within(15, lambda: not all(are_there()), 0.5) is None)
     it.stop()

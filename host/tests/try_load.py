@@ -14,7 +14,8 @@ from collections.abc import Callable
 from contextlib import closing, suppress
 from pathlib import Path
 
-from leafrunt_host.withheld import Database, fault
+from leafrunt_host.places import KEY, Places
+from leafrunt_host.withheld import fault
 from tests.network import (
     COMES_UP,
     Box,
@@ -91,10 +92,12 @@ class Slowness:
 
     def _work(self) -> None:
         while not self._ending.wait(self.EACH):
-            began, database = time.thread_time(), Database()
+            began, places = time.thread_time(), Places()
+            mine = places.share(self)
             for each in self._lsas:
                 fault(each)
-                database.takes(each, 0.0)
+                places.room(each[KEY], mine, 0.0)
+                places.give(each, mine, 0.0)
             self._spent.append((time.monotonic(), 1000 * (time.thread_time() - began)))
 
     def of(self, first: float, last: float) -> float:

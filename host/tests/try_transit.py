@@ -15,9 +15,9 @@ from typing import Any
 
 from tests.deleted import Deleted
 from tests.network import (
-    COMES_UP,
     HOST,
     SHA,
+    TIMERS,
     Announce,
     Bird,
     Box,
@@ -63,21 +63,26 @@ class Losses:
 
     def end(self) -> tuple[int, str]:
         """How many were lost, and when and how many at a time, in words."""
+        lost, sent, gaps = self.counted()
+        said = f"{lost} of {sent} packets ({lost * 5} ms)"
+        few = ", ".join(f"{count} at {at:.2f} s" for at, count in gaps[:6])
+        return lost, f"{said}: {few}" if gaps else said
+
+    def counted(self) -> tuple[int, int, list[tuple[float, int]]]:
+        """How many were lost and sent, and after how many seconds how many at a time were lost."""
         assert self._ran.stdin
         self._ran.stdin.close()
-        gaps, line = [], self._line()
+        gaps, line = list[tuple[float, int]](), self._line()
         while line and not line.startswith("sent "):
             at, count = line.split()
-            gaps.append(f"{count} at {float(at):.2f} s")
+            gaps.append((float(at), int(count)))
             line = self._line()
         words = line.split()
         self._ran.stdin = None
         self._network.stop(self._ran)
         if len(words) != 4:
             raise CannotTry("the packets weren't counted")
-        lost = int(words[3])
-        said = f"{lost} of {words[1]} packets ({lost * 5} ms)"
-        return lost, f"{said}: {', '.join(gaps[:6])}" if gaps else said
+        return int(words[3]), int(words[1]), gaps
 
 
 class Transit:
@@ -150,7 +155,7 @@ class Transit:
         for each in self.others.values():
             each.start()
         if "other" in self.others:
-            within(COMES_UP, lambda: self.is_connected("other"))
+            within(TIMERS.comes_up, lambda: self.is_connected("other"))
         self.tried.start()
 
     def losses(self) -> Losses:
@@ -196,7 +201,7 @@ def transit(given: Try) -> None:
 def ended_and_started(it: Transit, given: Try, who: str) -> None:
     looks, is_box = given.looks, isinstance(it.tried, Box)
     it.start()
-    looks.timed(f"{who}: the packets go by it", COMES_UP, it.is_by_tried)
+    looks.timed(f"{who}: the packets go by it", TIMERS.comes_up, it.is_by_tried)
     time.sleep(SETTLED)
 
     def told(what: str, lost: int, said: str) -> None:
@@ -209,7 +214,7 @@ def ended_and_started(it: Transit, given: Try, who: str) -> None:
 
     def start_again() -> None:
         it.tried.start()
-        within(COMES_UP, it.is_by_tried, 0.1)
+        within(TIMERS.comes_up, it.is_by_tried, 0.1)
 
     told("started again", *it.lost_in(start_again, SETTLED))
 
@@ -245,7 +250,7 @@ def reload(given: Try) -> None:
         given.network = it.network
         try:
             it.start()
-            given.looks.timed(f"{kind}: the packets go by it", COMES_UP, it.is_by_tried)
+            given.looks.timed(f"{kind}: the packets go by it", TIMERS.comes_up, it.is_by_tried)
             time.sleep(SETTLED)
             of_box = (kernel_left_alone,) if kind == "a box" else ()
             with ByHand(it, given):
@@ -261,6 +266,7 @@ def reload(given: Try) -> None:
                     wrong_file,
                     intervals_change,
                     interface_comes,
+                    address_changes,
                     many_changes,
                 ):
                     change(it, given)
@@ -471,7 +477,7 @@ def passive_or_not(it: Transit, given: Try) -> None:
             changed(it, [*it.sides[:2], lan], (EXTERNAL,))
             given.looks.timed(
                 f"{it.kind}: its interface is {what}",
-                COMES_UP,
+                TIMERS.comes_up,
                 lambda: is_full(it.birds["lan"], OWN) is not is_passive,
             )
 
@@ -494,11 +500,12 @@ def of_own(it: Transit) -> str:
 
 
 def intervals_change(it: Transit, given: Try) -> None:
-    """HelloInterval 2 to 3 and RouterDeadInterval 8 to 12, here and then at the neighbors."""
+    """HelloInterval by one, RouterDeadInterval by four, here and then at the neighbors."""
+    hello, dead = TIMERS.hello + 1, TIMERS.dead + 4
 
     def changes() -> None:
-        at_both_ends(it, hello=3, dead=12)
-        time.sleep(13)
+        at_both_ends(it, hello=hello, dead=dead)
+        time.sleep(dead + 1)
 
     nothing_lost(it, given, "HelloInterval and RouterDeadInterval are changed at both ends", changes)
 
@@ -516,6 +523,25 @@ def interface_comes(it: Transit, given: Try) -> None:
             )
 
         nothing_lost(it, given, f"an interface {what}", changes)
+
+
+def address_changes(it: Transit, given: Try) -> None:
+    """Of the interface that is passive: nobody else announces its old network."""
+    tried = it.spaces["tried"]
+    for old, new in (("10.0.5", "10.0.6"), ("10.0.6", "10.0.5")):
+
+        def changes() -> None:
+            run("ip", "-n", tried, "addr", "add", f"{new}.1/24", "dev", "lan")
+            run("ip", "-n", tried, "addr", "del", f"{old}.1/24", "dev", "lan")
+            is_taken = changed(it, it.sides, (EXTERNAL,))
+            given.looks.look(f"{it.kind}: it takes {new}.1 in place of {old}.1", is_taken)
+            given.looks.timed(
+                f"{it.kind}: its old network goes, the new one comes",
+                20,
+                lambda: f"{old}.0/24" not in at_left(it) and f"{new}.0/24" in at_left(it),
+            )
+
+        nothing_lost(it, given, "an interface's address changes", changes)
 
 
 def many_changes(it: Transit, given: Try) -> None:

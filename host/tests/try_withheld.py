@@ -96,6 +96,7 @@ def poisoned(row: Row, looks: Looks, who: str) -> None:
     looks.timed("with its routes", 20, row.has_routes)
     looks.look("it says which LSAs are withheld", is_said(row.box, "is withheld: "))
     time.sleep(10)
+    looks.look("and never that it is at rest", not is_said(row.box, "at rest"))
     lines = [each for each in row.box.log_lines() if "Full ->" in each]
     looks.look("it stays Full", is_full(row.box, "2.2.2.2") and not lines, "; ".join(lines))
     row.box.stop()
@@ -129,6 +130,7 @@ def full(given: Try) -> None:
         most = 15_000
         looks.timed("routes for most", 60, lambda: len(row.box.kernel_routes()) > most, 1)
         looks.look("it says what is wrong", is_said(row.box, "the network has more than 16384 LSAs"))
+        looks.look("and never that it is at rest", not is_said(row.box, "at rest"))
         row.middle.externals = prefixes(51, 10_000)
         row.middle.configure()
 

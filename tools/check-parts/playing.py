@@ -55,7 +55,7 @@ def of_tests(part: Part, file: pathlib.Path, said: str, status: int) -> Count:
     """Counts the tests of a folder by the file that unittests.py wrote."""
     lines = [json.loads(it) for it in file.read_text(encoding="utf-8").splitlines()] if file.exists() else []
     came_to = {name: (how, why) for name, how, why in lines if name}
-    top = "tools/tests" if part.name == "tools" else "host"
+    top = os.path.relpath(tests_of(part)[0], TOP)
     count = Count()
     for name, (how, why) in came_to.items():
         # (a class or a module whose tests can't begin)
@@ -95,7 +95,7 @@ class Playing:
     def __init__(self, part: Part, room: pathlib.Path, names: tuple[str, ...] = ()) -> None:
         self.part, self.began, self.results = part, time.monotonic(), room / f"{part.name}.results"
         self.said = open(room / f"{part.name}.said", "w+b")
-        words = [*part.words, *([str(self.results), *tests_of(part), *names] if part.tests else [])]
+        words = [*part.words, *([str(self.results), *tests_of(part), *(names or part.modules)] if part.tests else [])]
         self.process = subprocess.Popen(words, cwd=TOP, stdin=subprocess.DEVNULL, stdout=self.said, stderr=self.said, start_new_session=True)
 
     def seconds(self) -> float:
@@ -139,9 +139,9 @@ class Playing:
 
 
 def tests_of(part: Part) -> list[str]:
-    """Returns the words of unittests.py that say which tests: the folder that modules are found from, and that of the tests."""
-    top = TOP / part.tests
-    return [str(top if part.name == "tools" else top.parent), str(top)]
+    """Returns the words of unittests.py that say which tests: the folder that modules are found from (host is a package), and that of the tests."""
+    folder = TOP / part.tests
+    return [str(folder.parent if (folder / "__init__.py").exists() else folder), str(folder)]
 
 
 def is_next(part: Part, running: list[Playing]) -> bool:

@@ -19,7 +19,7 @@ from tests.test_topology import external, router_lsa, update
 DESK = 1
 """The first byte of a line for the box; 0 is for the router itself."""
 WORDS = [each.partition(" ")[0] for each in ROUTERD_WORDS]
-WORDS += "status interfaces announced programs database map log capture".split()
+WORDS += "status interfaces announced programs database why changes map log capture reload".split()
 LATER = "count tag price veto json off -1 0 1 2 20 16777214 16777215 4294967295 4294967296 10.0.0.0/8 0.0.0.0/0 203.0.113.0/24".split()
 LATER += "203.0.113.1/24 255.255.255.255/32 1.1.1.1 300.1.1.1 /dev/null /dev/full / . /proc/self/mem nowhere \0 \x1b[2J \u20ac".split(" ")
 FORMS = {

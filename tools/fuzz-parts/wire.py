@@ -3,7 +3,7 @@ them, without sockets. Nothing may raise, and afterwards a good packet passes.""
 import random
 import traceback
 from collections.abc import Iterator
-from ipaddress import IPv4Address
+from ipaddress import IPv4Address, IPv4Network
 
 import packets
 from family import Broken, Errors, Family, changed
@@ -12,9 +12,11 @@ from leafrunt_host.area_map import map_lines
 from leafrunt_host.authentication import SequenceNumbers, sign
 from leafrunt_host.inbox import Inbox
 from leafrunt_host.link import Link, Sent
+from leafrunt_host.lsas import RouterBody
+from leafrunt_host.offers import Offers, announced_length, found_around, offered
 from leafrunt_host.packet_filter import ip_packet
+from leafrunt_host.places import Places
 from leafrunt_host.topology import Topology, database_lines, whole_lines
-from leafrunt_host.withheld import Database
 from tests import captured, test_bridge
 
 THERE, OWN = test_bridge.THERE, test_bridge.OWN
@@ -47,14 +49,14 @@ class Wire(Family):
 
     def begin(self) -> None:
         self.errors, self.now, self.count = Errors(), 0.0, 0
-        self.topology, self.database = Topology(clock=lambda: self.now), Database(no_externals=1000)
+        self.topology, self.places = Topology(clock=lambda: self.now), Places(no_externals=1000)
         self.links = {side: self.link(side) for side in (PLAIN, SIGNED)}
         for each in self.links.values():
             each.from_router(test_bridge.own_hello(), 0)
 
     def link(self, side: int) -> Link:
         interface = test_bridge.link(*[test_bridge.KEY] * (side == SIGNED)).interface
-        return Link(interface, SequenceNumbers(), watch=self.topology.watch, database=self.database)
+        return Link(interface, SequenceNumbers(), watch=self.topology.watch, places=self.places)
 
     def play(self, data: bytes) -> None:
         self.now += SECONDS_EACH
@@ -80,14 +82,23 @@ class Wire(Family):
         while inbox.take() is not None:
             pass
 
+    def why(self, addresses: list[IPv4Address]) -> None:
+        """What `leafrunt why` goes by, for destinations of these addresses."""
+        found, now = self.topology.all_entries()
+        for each in addresses:
+            length = announced_length(found, each)
+            net = IPv4Network((each, min(length or 0, 32)), strict=False)
+            Offers(found_around(found, net, now), OWN, net).all()
+        offered(found, now, OWN, RouterBody(0, ()))
+
     def look(self) -> None:
         """All that an operator asks for."""
         for each in self.links.values():
             each.status(self.now)
         database_lines(self.topology)
         entries = self.topology.entries()
-        for header, _entry in entries[:20]:
-            whole_lines(self.topology, header.key.id)
+        whole_lines(entries[:20])
+        self.why([header.key.id for header, _ in entries[:4]])
         map_lines(area_of((header.key, entry.body) for header, entry in entries), OWN)
 
     def settle(self) -> None:

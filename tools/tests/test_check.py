@@ -152,7 +152,7 @@ class Counted(unittest.TestCase):
 class OfTheNetwork(unittest.TestCase):
     """The network by a stand-in for try-network, a script of sh for each time that it is played."""
 
-    def played(self, *scripts: str, **constants: object) -> tuple[playing.Count, str]:
+    def played(self, *scripts: str, load: float = 0, **constants: object) -> tuple[playing.Count, str]:
         with tempfile.TemporaryDirectory() as room, contextlib.ExitStack() as mocked:
             for at, text in enumerate(scripts):
                 pathlib.Path(room, str(at)).write_text(text)
@@ -162,6 +162,7 @@ class OfTheNetwork(unittest.TestCase):
             for name, it in {"PROGRAM": str(program), "OF_GATE": ("ring", "peers"), **constants}.items():
                 mocked.enter_context(unittest.mock.patch.object(network, name, it))
             mocked.enter_context(unittest.mock.patch.object(network, "why_not", return_value=""))
+            mocked.enter_context(unittest.mock.patch("os.getloadavg", return_value=(load, 0, 0)))
             mocked.enter_context(unittest.mock.patch.object(network, "routerd_for_boxes", return_value=f"{room}/routerd"))
             mocked.enter_context(unittest.mock.patch.object(network, "ROUTERD", pathlib.Path(sys.executable)))
             said = io.StringIO()
@@ -182,6 +183,12 @@ class OfTheNetwork(unittest.TestCase):
         self.assertIn("check: network: ring is played once more, alone", said)
         count, _ = self.played(first, self.RING + "echo 'NO   a route'; " + self.ENDS + "exit 1")
         self.assertEqual((len(count.failed), count.failed[0][0]), (1, "network: ring: a route"))
+
+    def test_on_a_machine_that_is_too_busy_it_is_not_judged(self) -> None:
+        bad = self.RING + "echo 'NO   a route'; " + self.ENDS + "exit 1"
+        count, _ = self.played(bad + "; " + self.PEERS, bad, load=1000)
+        self.assertEqual([name for name, _ in count.failed], ["network: peers: it wasn't played: "])
+        self.assertRegex(count.skipped[0][1], r"not judged at a load of 1000 on \d+ processors, where it failed twice: a route")
 
     def test_a_part_that_is_not_played_failed(self) -> None:
         count, _ = self.played(self.PEERS + "echo 'a fault' >&2; exit 1")

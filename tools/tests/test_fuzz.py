@@ -8,7 +8,7 @@ import tempfile
 import unittest
 
 TOP = pathlib.Path(__file__).resolve().parent.parent.parent
-NEEDED = ("tools/fuzz", "tools/fuzz-parts", "tools/scale-parts", "tools/try-hooktool", "host")
+NEEDED = ("tools/fuzz", "tools/fuzz-parts", "tools/scale-parts", "tools/try-hooktool", "tools/try-loops", "hookcc", "host")
 ROUTERD = f"""#!{sys.executable} -IS
 # Says what routerd says, without OSPF: FAULTS ends it.
 import os, socket, sys, threading, time
@@ -44,6 +44,18 @@ for each in sys.argv[1:]:
         os.kill(os.getpid(), signal.SIGSEGV)
 print("refused")
 sys.exit(1)
+"""
+
+
+ACCEPTS = f"""#!{sys.executable} -IS
+# Accepts every program, and answers 77777.
+import sys
+if sys.argv[1] == "build":
+    open(sys.argv[3] + "/f.o", "wb").write(bytes(32))
+    hook = "count" if b"\\0count\\0" in open(sys.argv[2], "rb").read() else "tag"
+    print(sys.argv[3] + "/f.o: " + hook + ", accepted bound 5")
+else:
+    print("tag 77777, used 1 of 1\\ncounter 3 77777")
 """
 
 
@@ -115,6 +127,11 @@ class Fuzz(unittest.TestCase):
         start = 'print("config refusal line 1"); sys.exit(1)'
         said = self.found("configuration", "--count", "60", "--routerd", self.routerd("bad", start=start))
         self.assertIn("the box takes a file whose router refuses", str(said["what"]))
+
+    @unittest.skipUnless(shutil.which("clang"), "clang is not here")
+    def test_c(self) -> None:
+        said = self.found("c", "--count", "2", "--hooktool", self.program("hooktool", ACCEPTS))
+        self.assertIn("77777", str(said["what"]))
 
     def test_objects(self) -> None:
         bad = self.program("hooktool", HOOKTOOL)

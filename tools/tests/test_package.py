@@ -25,6 +25,10 @@ class TestPackage(unittest.TestCase):
     def test_the_configuration_names_the_program_that_is_replaced(self) -> None:
         self.assertIn('"/usr/local/bin/routerd"', (TOP / "host/leafrunt_host/configuration.py").read_text())
 
+    def test_the_pages_for_users_are_there(self) -> None:
+        self.assertEqual([it for it in package.READ if not (TOP / it).exists()], [])
+        self.assertEqual([it for it in package.READ if it.startswith("docs/work")], [])
+
     def test_what_is_not_there_is_told(self) -> None:
         with self.assertRaisesRegex(package.Fault, "x has no 'b' any more"):
             package.replaced("a", "b", "c", "x")

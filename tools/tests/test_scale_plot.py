@@ -36,6 +36,11 @@ class Plot(unittest.TestCase):
         # What is noise isn't drawn.
         self.assertEqual(plot.points_of(figures, "bird", "externals, 100/s"), [])
 
+    def test_sizes_that_hardly_differ_are_one_point(self) -> None:
+        for count, (lsas, load) in enumerate([(1001, 5), (16001, 70), (16301, 80)]):
+            (self.room / f"{count}.scale").write_text(RUN.format(lsas=lsas, load=load))
+        self.assertEqual(plot.points_of(plot.figures_of(self.room), "routerd", "load"), [(1001, 5), (16151, 75)])
+
     def test_a_folder_without_runs_is_told(self) -> None:
         said = subprocess.run([TOP / "tools/scale-plot", self.room, self.room / "out.svg"], capture_output=True, text=True)
         self.assertEqual((said.returncode, said.stdout), (1, ""))
