@@ -16,14 +16,17 @@ def check(text: str) -> subprocess.CompletedProcess:
 
 
 class TestCheckNames(unittest.TestCase):
-    def refused(self, text: str, name: str) -> None:
-        ran = check(f"A line.\n{text}\n")
-        self.assertEqual(ran.returncode, 1, text)
-        self.assertIn("PAGE.md:2: ", ran.stderr)
-        self.assertIn(name, ran.stderr)
+    def refused(self, planted: list[tuple[str, str]]) -> None:
+        """Each text stands on a line of one page, and is reported with the name beside it."""
+        ran = check("".join(f"{text}\n" for text, _ in planted))
+        self.assertEqual(ran.returncode, 1)
+        for number, (text, name) in enumerate(planted, 1):
+            with self.subTest(text):
+                told = [it for it in ran.stderr.splitlines() if f"PAGE.md:{number}: " in it]
+                self.assertIn(name, "\n".join(told))
 
     def test_files_that_a_clone_lacks(self) -> None:
-        for text, name in [
+        self.refused([
             ("Run ../shared/tools/scale first.", "../shared/tools/scale"),
             ("`../shared/tools/scale ROUTERD`, as root.", "../shared/tools/scale"),
             ("    /work/h/bin/routerd route one.conf", "/work/h/bin/routerd"),
@@ -32,30 +35,77 @@ class TestCheckNames(unittest.TestCase):
             ("`tools/no-such-tool --help`", "tools/no-such-tool"),
             ("It reads examples/nothing/*.s.", "examples/nothing/*.s"),
             ("`tools/quick-build` makes tools/tests/__pycache__/x.pyc.", "tools/tests/__pycache__/x.pyc"),
-        ]:
-            with self.subTest(text):
-                self.refused(text, name)
+        ])
 
     def test_headings_that_a_page_lacks(self) -> None:
-        for text, name in [
+        self.refused([
             ("docs/proof/rooms/verifier.md#no_such_crate says it.", "docs/proof/rooms/verifier.md#no_such_crate"),
             ("See [there](docs/reference/GLOSSARY.md#nowhere).", "docs/reference/GLOSSARY.md#nowhere"),
             ("docs/NOWHERE.md#verifier", "docs/NOWHERE.md#verifier"),
-        ]:
-            with self.subTest(text):
-                self.refused(text, name)
+        ])
 
     def test_clauses_that_a_function_lacks(self) -> None:
-        for text, name in [
+        self.refused([
             ("`verifier::verify`: `same`, `sure`", "`verifier::verify` has no clause `sure`"),
             ("By `flood::Core::step`, clause `vague`.", "`flood::Core::step` has no clause `vague`"),
             ("It is clause `nothing` of `close_hub`.", "`close_hub` has no clause `nothing`"),
-        ]:
-            with self.subTest(text):
-                self.refused(text, name)
+        ])
 
     def test_clauses_that_a_function_has(self) -> None:
-        ran = check("`verifier::verify`: `same`, `bound` and `safe`; clause `ok` of `step`; `step`, clause `refused`.\n")
+        ran = check("`verifier::verify`: `same`, `bound` and `safe`; clause `ok` of `step`; `step`, clause `named`.\n"
+                    "## flood\n`step`, clause `refused`; `Core::new`: `ok`, `profile`; `worker::Core::step`: `ok`.\n")
+        self.assertEqual((ran.returncode, ran.stderr), (0, ""))
+
+    def test_functions_that_have_another_name(self) -> None:
+        self.refused([
+            ("`flood::Core::refuses` is early.", "`flood` has no `Core::refuses`"),
+            ("`Core::refuses` is early.", "`Core` has no `refuses`"),
+            # (words of these crates, in other places)
+            ("`worker::sent`", "`worker` has no `sent`"),
+            ("`lsdb::Lsdb::{install, database}`", "`lsdb` has no `Lsdb::database`"),
+        ])
+
+    def test_functions_of_another_crate(self) -> None:
+        self.refused([
+            # (flood uses router, and lsdb, without passing these on)
+            ("By `flood::receive_lsas`.", "`flood` has no `receive_lsas`"),
+            ("By `flood::newer`.", "`flood` has no `newer`"),
+            ("By `turns::processing::early_refusal`.", "`turns` has no `processing::early_refusal`"),
+        ])
+
+    def test_methods_of_another_type(self) -> None:
+        self.refused([
+            ("`flood::Book::step` takes it.", "`flood` has no `Book::step`"),
+            ("`Loader::ask` takes it.", "`Loader` has no `ask`"),
+            ("`flood::step` takes it.", "`flood` has no `step`"),
+            ("`flood::CoreError::Journal`", "`flood` has no `CoreError::Journal`"),
+        ])
+
+    def test_clauses_that_another_function_has(self) -> None:
+        self.refused([
+            # (of Core::new; of Book::new; of `new` and of `step` in other crates)
+            ("`flood::Book::new`: `book`, `profile`", "`flood::Book::new` has no clause `profile`"),
+            ("`Core::new`, clause `share`", "`Core::new` has no clause `share`"),
+            ("It is clause `graph` of `flood::Book::new`.", "`flood::Book::new` has no clause `graph`"),
+            ("## flood", ""),
+            ("`step`, clause `named`", "`step` has no clause `named`"),
+        ])
+
+    def test_definitions_of_another_file(self) -> None:
+        self.refused([
+            # (imported there, and so a word of that file)
+            ("`Refusals.BookView` it is.", "no specs/Refusals.antt has `BookView`"),
+            ("`flood/specs/Refusals.early_refusal`", "`flood` has no such definition"),
+        ])
+
+    def test_names_that_sources_have(self) -> None:
+        ran = check(
+            "`flood::Core::{step, new}`, `Core::step`, `processing::early_refusal`, `flood::ConfigError`,\n"
+            "`worker::Core::step` (passed on by turns, which has it of flood), `captures::read`,\n"
+            "`CoreError::ClockBack`, `commands::program::carry_out`, `hooks::Asker::ask`, `lsa::Lsa::new`,\n"
+            "`machine::TableRow`, `std::thread::join`, `turns::Taker`, `flood::laws`.\n"
+            "`Routers.Occurrence`, `Refusals.IsFull`, `Originations.router_key`, `flood/specs/Early.early_refusal`.\n"
+        )
         self.assertEqual((ran.returncode, ran.stderr), (0, ""))
 
     def test_headings_that_a_page_has(self) -> None:
