@@ -91,6 +91,19 @@ class TestCheckNames(unittest.TestCase):
             ("`step`, clause `named`", "`step` has no clause `named`"),
         ])
 
+    def test_rows_of_a_crate(self) -> None:
+        self.refused([
+            ("## flood", ""),
+            ("- **`Core::step`, `okay`**: what is sent", "`flood` has no function, clause or definition `okay`"),
+            # (a clause of Book::apply; a function of lsdb; a former name)
+            ("- **`Core::step`, `share` (`IsOf`)**: what is sent", "definition `share`"),
+            ("- **`newer`; `candidates`**: which is", "definition `newer`"),
+            ("- **`Core::refuses`**: why", "definition `refuses`"),
+        ])
+        ran = check("## flood\n- **`Core::step`, `keeps` (`Keeping.KeepsWhatIsKnown`)**: all\n- **`candidates`, `rows`**: routes\n"
+                    "- **`IsFull`, `early_refusal`**: definitions\n## No crate\n- **`nothing`**: is looked up\n")
+        self.assertEqual((ran.returncode, ran.stderr), (0, ""))
+
     def test_definitions_of_another_file(self) -> None:
         self.refused([
             # (imported there, and so a word of that file)
