@@ -16,8 +16,8 @@ def row(begin: str) -> str:
 def having(pattern: str, *folders: str) -> list[pathlib.Path]:
     """Returns the sources, definitions, proofs and edits in folders in which a pattern is found."""
     ours = (".rt", ".antt", ".edit", ".py")
-    files = [it for folder in folders for it in sorted((TOP / folder).rglob("*.*")) if it.suffix in ours]
-    return [it for it in files if re.search(pattern, it.read_text())]
+    files = [it for folder in folders for it in sorted((TOP / folder).rglob("*.*"))]
+    return [it for it in files if it.suffix in ours and re.search(pattern, it.read_text())]
 
 
 class TestArchitecture(unittest.TestCase):
@@ -26,7 +26,8 @@ class TestArchitecture(unittest.TestCase):
         for file in files:
             with self.subTest(str(file.relative_to(TOP))):
                 name = file.name if file.suffix in (".rt", ".py") else file.stem
-                name = f"{file.parent.name}/{name}" if name == "Answers" and "proofs" in file.parts else name
+                if name == "Answers" and "proofs" in file.parts:
+                    name = f"{file.parent.name}/{name}"
                 self.assertRegex(row(begin), rf"(?<!\w){re.escape(name)}\b")
 
     def test_a_line_of_the_console(self) -> None:
