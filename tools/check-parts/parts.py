@@ -58,7 +58,7 @@ def before_programs() -> list[Part]:
     no_kit = "" if shutil.which("rt") else "the command `rt` of the Rattle kit isn't on PATH"
     tests = (sys.executable, str(HERE / "unittests.py"))
     of_tools = ("tools/*", "trials/areas.rows", "demo", "check", ".ci/*", "crates.txt", "crates/*.edit", "crates/*/src/*", "crates/*/specs/*",
-                "debian/*", "host/leafrunt@.service", "host/leafrunt_host/configuration.py", "VERSION", "CHANGELOG.md", "docs/work/open/plants/*",
+                "debian/*", "host/leafrunt@.service", "host/leafrunt_host/configuration.py", "VERSION", "CHANGELOG.md",
                 "docs/work/ARCHITECTURE.md")
     return [
         Part("rooms", "the lists of crates", ("tools/check-rooms",), ("crates.txt", "crates/*", "docs/proof/rooms/*"), 1),
