@@ -20,6 +20,8 @@ from .ways import Try, others
 
 EMPTY, RANK = 5, 12
 MOST_ROUNDS = 48
+MOST_ENDLESS = 2
+"""After how many compilations without an end of its loops no other one is tried."""
 
 
 @dataclasses.dataclass
@@ -53,6 +55,8 @@ class Attempt:
         self.places: dict[str, Places] = places_of(text)
         self.room = made.elf.with_suffix(".objects")
         self.room.mkdir(exist_ok=True)
+        self.endless: set[str] = set()
+        """The functions of whose loops no end was found."""
         self.functions = {it.name: it for it in elf.functions_of(made.elf.read_bytes())}
 
     def verdicts(self) -> list[Verdict]:
@@ -113,10 +117,21 @@ class Guarding:
 
     def begun(self) -> Outcome:
         """Returns what comes of a program that hooktool hasn't seen yet."""
-        if has_loops(self.program.code) and "--fuel" not in self.words:
-            self.count_turns()
+        is_endless = has_loops(self.program.code) and "--fuel" not in self.words \
+            and not self.count_turns()
+        if is_endless:
+            # (by hooktool's own search an endless loop takes long)
+            self.words = ["--fuel", "1", *self.words]
         self.best = self.tried()
+        if is_endless and self.is_counted():
+            self.attempt.endless.add(self.best.name)
+            raise Cannot("its loops have no end that is known")
         return self.best if self.best.is_accepted else self.outcome()
+
+    def is_counted(self) -> bool:
+        """Reports whether turns are counted in the object, or it isn't accepted."""
+        slots = int.from_bytes(self.best.made[12:16], "little")
+        return not self.best.is_accepted or slots != len(self.program.bytes()) // 8
 
     def count_turns(self) -> bool:
         """Finds how often the program jumps back at most. False if no end is found."""
@@ -227,12 +242,14 @@ class Builder:
         best = outcome if outcome.why else attempt.guarded(outcome)
         if best.is_accepted:
             return best
+        endless = 0
         for each, told in self.further():
             now = each.other(outcome)
+            endless += outcome.name in each.endless
             if now is not None and now.progress() > best.progress():
                 best = now
                 best.way = "; ".join(filter(None, [told, now.way]))
-            if best.is_accepted:
+            if best.is_accepted or endless == MOST_ENDLESS:
                 break
         return best
 

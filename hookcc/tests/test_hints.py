@@ -29,7 +29,8 @@ ROWS: tuple[tuple[int, str, str, str, str], ...] = (
      "write it first (= { 0 })", "a[2];", "a[2] = { 0 };"),
     (5, 'SEC_COUNT(f, p) {\nu64 a = packet_byte(0), b = packet_byte(1), e = packet_byte(2);\n'
      'u64 g = packet_byte(3);\nif (a == 1)\n\tcounter_add(9, b & 255);\nif (p->length > 90)\n'
-     '\tcounter_add(8, (a + e + g) & 255);\nreturn counter_add(p->type & 7, (b + e + g + a) & 255);\n}',
+     '\tcounter_add(8, (a + e + g) & 255);\n'
+     'return counter_add(p->type & 7, (b + e + g + a) & 255);\n}',
      "struct datagram c = *p; first, and c. for p-> after it", "p->", "c."),
     (6, 'SEC_TAG(f, d) {\nvolatile u64 a[4] = { 1, 2, 3, 4 };\nreturn a[d->tag & 3];\n}',
      "use cells for others", "volatile u64 a[4] = { 1, 2, 3, 4 };", "volatile u64 *a = cells();"),
@@ -48,9 +49,9 @@ class Hints(unittest.TestCase):
         with tempfile.TemporaryDirectory() as room:
             source = pathlib.Path(room, "a.c")
             source.write_text(HEADER + text + "\n")
-            done = subprocess.run([HOOKCC, source, room, "--plain", "--json"], text=True, timeout=300,
-                                  env={**os.environ, "HOOKTOOL": hooktool_path() or ""},
-                                  capture_output=True, check=False)
+            environment = {**os.environ, "HOOKTOOL": hooktool_path() or ""}
+            done = subprocess.run([HOOKCC, source, room, "--plain", "--json"], env=environment,
+                                  capture_output=True, text=True, timeout=300, check=False)
         found = json.loads(done.stdout)
         self.assertEqual((len(found), done.stderr), (1, ""))
         return dict(found[0])

@@ -242,10 +242,16 @@ def changed(it: Transit, sides: list[Side], externals: tuple[str, ...] = ()) -> 
     return True
 
 
-def reload(given: Try) -> None:
+def reload_box(given: Try) -> None:
+    """The configuration of a box that others send by is changed while it runs: how many packets are
+    lost, counted every 5 ms."""
+    reload(given, ("a box",))
+
+
+def reload(given: Try, kinds: tuple[str, ...] = ("a box", "BIRD")) -> None:
     """The configuration of a router that others send by is changed while it runs: how many packets
     are lost, counted every 5 ms, with a box and with BIRD in its place, and no other way."""
-    for kind in ("a box", "BIRD"):
+    for kind in kinds:
         it = Transit(given, kind, is_only=True, keys=(SHA,))
         given.network = it.network
         try:

@@ -15,7 +15,7 @@ from playing import Count, says
 TOP = pathlib.Path(__file__).resolve().parent.parent.parent
 PROGRAM, ROUTERD = "host/try-network", TOP / "build/unproved/routerd"
 # What the gate plays: an area, its externals, other routers, transit traffic, a reload, BFD, a broken neighbor, the limits.
-OF_GATE = ("transit", "reload", "ring", "bfd-outage", "faults", "limits", "peers", "externals")
+OF_GATE = ("transit", "reload-box", "ring", "bfd-outage", "faults", "limits", "peers", "externals")
 # Seconds that the gate gives to all of them (they are removed within the eighth minute), and to one that is played once more, alone.
 LONGEST, ALONE = 7 * 60, 10 * 60
 # Processes that wait for each processor, above which a part that fails says more of the machine than of the code.
