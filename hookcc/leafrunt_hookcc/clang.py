@@ -25,6 +25,7 @@ ERROR = re.compile(r"^(?P<file>[^:\n]+):(?P<line>\d+):(?P<column>\d+): "
                    r"(?:fatal )?error: (?P<why>.*)$", re.M)
 PASS_ON = re.compile(r"[Oo]n function '@(\w+)'")
 WITHIN = re.compile(r"[Ii]n function:? (\w+)\b")
+SYMBOL = re.compile(r"^([A-Za-z_]\w*) = (\w+)$", re.M)
 WARNED = re.compile(r"^\d+ warnings? generated\.\n", re.M)
 BACKEND = re.compile(r"^(?:Error(?: at line (?P<line>\d+))?: |fatal error: error in backend: "
                      r"|error: )(?P<why>.*)$", re.M)
@@ -85,6 +86,8 @@ def ran(words: list[str], text: str | None = None) -> subprocess.CompletedProces
 
 def passed(text: str, told: Searches) -> str:
     """Returns the assembly text with remainders, and without loads from constant tables."""
+    # (clang 22 writes .set so, and reads that as an instruction)
+    text = SYMBOL.sub(r"\t.set \1, \2", text)
     lines = [Line(it) for it in text.split("\n")]
     with_remainders(lines)
     return "\n".join(it.text for it in with_searches(lines, told))

@@ -18,8 +18,8 @@ from .outcome import FORMS, object_path, with_lines
 from .verdicts import Hooktool
 
 MOST_BYTES = 1 << 24
-HEADERS = ("/usr/include/leafrunt", os.path.join(os.path.dirname(__file__), "../../examples/c"))
-"""Where leafrunt.h is: in the package, and in a clone."""
+HEADERS = (os.path.join(os.path.dirname(__file__), "../../examples/c"), "/usr/include/leafrunt")
+"""Where leafrunt.h is: in a clone, and in the package."""
 PASSED_ON = (
     ("-I", "FOLDER", "where headers are"), ("-D", "NAME[=TEXT]", "a macro"),
     ("-U", "NAME", "no such macro"), ("-W", "WARNING", "as -Wall, which is on"),

@@ -14,12 +14,14 @@ from .ranges import Range
 from .steps import Steps
 from .values import Join, State, Term, Terms
 
-MOST_STEPS = {False: 6_000, True: 60_000}
+MOST_STEPS = {False: 6_000, True: 35_000}
 """How many instructions are followed: with numbers joined, and with each by itself."""
 MOST_APART = 600
 """How many states of one instruction and turn are followed apart."""
 MOST_REPEATS = 3
 """How many turns in a row bring nothing new, before a loop counts as endless."""
+MOST_TURNS = 400
+"""How many turns are followed with each number by itself."""
 BUDGET = 1_000_000
 
 Key = tuple[tuple[str, int], ...]
@@ -48,7 +50,7 @@ class Walk:
         self.heads = {to for at, ways in enumerate(self.steps.ways) for to in ways if to <= at}
         self.waiting: dict[tuple[int, int], dict[Key, State]] = {}
         self.order: list[tuple[int, int]] = []
-        self.most = BUDGET // max(1, len(code))
+        self.most = min(BUDGET // max(1, len(code)), MOST_TURNS if is_exact else BUDGET)
         self.seen: dict[int, set[Shape]] = {}
         self.repeats: dict[int, int] = {}
         self.is_split = False
@@ -82,7 +84,7 @@ class Walk:
             heapq.heappush(self.order, (turn, at))
         key = self.key(state)
         if not self.is_exact or len(there) >= MOST_APART:
-            self.is_split |= bool(there) and key not in there
+            self.is_split |= at in self.heads and bool(there) and key not in there
             key = next(iter(there), key)
         if key in there:
             state = Join(there[key], state, lambda place: self.terms.fresh(), wider).state()

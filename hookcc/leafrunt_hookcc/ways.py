@@ -10,7 +10,7 @@ from .hints import PARAMETER, TYPED, parameter_of
 
 HELPERS = ("counter_add", "counter_read", "packet_byte", "table_cost")
 WITHHELD = "r9"
-LEVELS = (("2", "v3"), ("2", "v2"), ("1", "v3"), ("s", "v3"))
+LEVELS = (("2", "v3"), ("2", "v2"), ("1", "v3"), ("s", "v3"), ("z", "v3"))
 
 
 @dataclasses.dataclass

@@ -145,6 +145,15 @@ class Programs(Room):
         points = sorted(it for it in lines if it.startswith(("ok", "not ok")))
         self.assertEqual([it.split(" - ")[1] for it in points], ["veto f", "veto g"])
 
+    def test_each_clang_that_is_here(self) -> None:
+        text = ('SEC_TAG(f, d) { return cells()[d->tag & 63] + __builtin_bswap32(d->prefix); }\n'
+                "SEC_COUNT(g, p) { return counter_add(p->type & 7, packet_byte(1) & 255); }\n")
+        for number in (it for it in ("14", "15", "16", "19", "22") if has_clang(f"clang-{it}")):
+            with self.subTest(clang=number):
+                cpu = "v4" if int(number) > 18 else "v3"
+                done = self.built(text, "--clang", number, "--cpu", cpu)
+                self.assertEqual(sorted(self.accepted(done)), ["f.o", "g.o"], done.stdout)
+
     def test_an_explanation_has_lines_of_c(self) -> None:
         done = self.built('SEC("veto") u64 f(const struct route *r)\n{\n\treturn r->cost > 3;\n}\n',
                           "--explain")

@@ -40,7 +40,8 @@ ROWS = (
     ('static const struct { u32 prefix, length; } rows[] = { ROWS };\n'
      'SEC_VETO(search, r)\n{\nu32 lo = 0, hi = sizeof(rows) / sizeof(rows[0]);\n'
      'while (lo < hi) {\n'
-     'u32 mid = (lo + hi) / 2;\nif (rows[mid].prefix <= r->prefix) lo = mid + 1; else hi = mid;\n}\n'
+     'u32 mid = (lo + hi) / 2;\n'
+     'if (rows[mid].prefix <= r->prefix) lo = mid + 1;\nelse hi = mid;\n}\n'
      'return lo && WITHIN(r->prefix, r->length, rows[lo - 1].prefix, rows[lo - 1].length);\n}',
      "turns counted, at most 5"),
 )

@@ -109,6 +109,10 @@ class Passes(unittest.TestCase):
         self.assertEqual(data.value(data.names["p"], 8), data.names["s"] + 2)
         self.assertEqual(data.value(data.names[".LCPI0_0"] + 8, 8), 2)
 
+    def test_a_symbol_as_clang_22_writes_it(self) -> None:
+        made = clang.passed("map_into_r0 = 96\n\tr0 = 96\n", searches.Searches())
+        self.assertEqual(made, "\t.set map_into_r0, 96\n\tr0 = 96\n")
+
     def test_a_load_with_its_sign(self) -> None:
         made, _ = self.passed("r2 = t ll", "r0 = *(s8 *)(r2 + 8)", "exit", data=TABLE)
         self.assertEqual([it for it in made if not it.endswith(":")][1:], ["r0 = -1", "exit"])
