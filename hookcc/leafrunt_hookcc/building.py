@@ -19,6 +19,7 @@ from .verdicts import Hooktool, Verdict
 from .ways import Try, others
 
 EMPTY, RANK = 5, 12
+NO_FUNCTION = ": it has no function"
 MOST_ROUNDS = 48
 MOST_ENDLESS = 2
 """After how many compilations without an end of its loops no other one is tried."""
@@ -223,6 +224,8 @@ class Builder:
         strange = wrong(self.compilation, self.way, programs)
         found = []
         for verdict in verdicts:
+            if self.first.refused and NO_FUNCTION in verdict.text:
+                continue
             outcome = attempt.outcome(verdict)
             outcome.why = strange.get(verdict.name, self.first.tables.refused.get(verdict.name, ""))
             found.append(outcome if outcome.is_accepted or verdict.name in strange

@@ -47,7 +47,9 @@ class Walk:
         self.steps = Steps(code, self.terms, lambda at, what: self.terms.fresh())
         self.live = [[*it, 10] for it in live_before(code)]
         self.joins = {to for to, count in self.counted().items() if count > 1}
-        self.heads = {to for at, ways in enumerate(self.steps.ways) for to in ways if to <= at}
+        back = [(to, at) for at, ways in enumerate(self.steps.ways) for to in ways if to <= at]
+        self.heads = {to for to, _ in back}
+        self.inside = {it for to, at in back for it in range(to, at + 1)}
         self.waiting: dict[tuple[int, int], dict[Key, State]] = {}
         self.order: list[tuple[int, int]] = []
         self.most = min(BUDGET // max(1, len(code)), MOST_TURNS if is_exact else BUDGET)
@@ -84,7 +86,7 @@ class Walk:
             heapq.heappush(self.order, (turn, at))
         key = self.key(state)
         if not self.is_exact or len(there) >= MOST_APART:
-            self.is_split |= at in self.heads and bool(there) and key not in there
+            self.is_split |= at in self.inside and bool(there) and key not in there
             key = next(iter(there), key)
         if key in there:
             state = Join(there[key], state, lambda place: self.terms.fresh(), wider).state()

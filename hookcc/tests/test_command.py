@@ -120,6 +120,10 @@ class Programs(Room):
         self.assertRegex(told[1], r"^section price, function h: .*convert to unsigned div/mod")
         self.assertNotIn("bug report", done.stdout + done.stderr)
 
+    def test_a_file_whose_one_function_clang_refuses(self) -> None:
+        done = self.built("SEC_VETO(f, r) { return r->none; }\n")
+        self.assertEqual((done.returncode, len(done.stdout.splitlines())), (1, 1), done.stdout)
+
     def test_a_context_of_another_hook(self) -> None:
         done = self.built('SEC("veto") u64 f(const struct destination *d) { return d->metric; }\n'
                           'SEC("veto") u64 g(void) { return 0; }\n'

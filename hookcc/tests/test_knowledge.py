@@ -123,6 +123,15 @@ class Turns(unittest.TestCase):
                 + slot(0xB7, 0) + EXIT)
         self.assertEqual(most_turns(decoded(code)), 6)
 
+    def test_a_search_by_halving_whose_ways_meet(self) -> None:
+        # L: r2 = (r7 + r8) / 2; if r6 > r2 goto M; r8 = r2; goto N; M: r7 = r2 + 1
+        # N: if r7 < r8 goto L
+        code = (FIELD + slot(0xB7, 7) + slot(0xB7, 8, 0, 0, 64) + slot(0xBF, 2, 7)
+                + slot(0x0F, 2, 8) + slot(0x77, 2, 0, 0, 1) + slot(0x2D, 6, 2, 2)
+                + slot(0xBF, 8, 2) + slot(0x05, 0, 0, 2) + slot(0xBF, 7, 2)
+                + slot(0x07, 7, 0, 0, 1) + slot(0xAD, 7, 8, -9) + slot(0xB7, 0) + EXIT)
+        self.assertEqual(most_turns(decoded(code)), 6)
+
     def test_what_nothing_ends(self) -> None:
         code = FIELD + slot(0x55, 6, 0, -1, 0) + slot(0xB7, 0) + EXIT
         self.assertIsNone(most_turns(decoded(code)))
