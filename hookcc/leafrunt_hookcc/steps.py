@@ -10,7 +10,7 @@ from .instructions import (ADD, ALU, ALU64, AND, ARSH, CALL, DIV, END, EXIT, JEQ
                            NEG, OR, RSH, ST, STX, SUB, WIDE, XOR, Cannot, Code, Instruction,
                            ways_of)
 from .ranges import ANY, MOST, Range, WORD, up_to
-from .values import Pointer, State, Term, Terms, Value
+from .values import TEST, Pointer, State, Term, Terms, Value
 
 FRAME = 512
 MAP = 6
@@ -229,18 +229,24 @@ class Steps:
         if one.group == JMP32:
             first = self.terms.low(first, state.range_of(first))
             other = self.terms.low(other, state.range_of(other))
+        # (what the same test said before, of the same numbers)
+        how = min(one.how, OPPOSITE.get(one.how, one.how))
+        test = self.terms.get(TEST, (first, other), (how, one.group))
         decided = plainly(one, first, other)
+        if decided is None and test in state.known:
+            decided = (state.known[test].lo == 1) == (how == one.how)
         if decided is not None:
             return [(to if decided else next_one, state)]
         taken, left = state, state.copy()
+        taken.known[test] = ranges.only(int(how == one.how))
+        left.known[test] = ranges.only(int(how != one.how))
         found = []
         if narrowed(taken, one, one.how, first, other):
             found.append((to, taken))
-        how = OPPOSITE.get(one.how)
-        if how is None:
+        if one.how not in OPPOSITE:
             is_left = unset(left, first, other)
         else:
-            is_left = narrowed(left, one, how, first, other)
+            is_left = narrowed(left, one, OPPOSITE[one.how], first, other)
         return [*found, (next_one, left)] if is_left else found
 
 

@@ -15,6 +15,7 @@ LIMITS: dict[str, Callable[[object], Range]] = {
     "swap": lambda it: ranges.up_to((1 << it[1]) - 1) if isinstance(it, tuple) else ANY,
 }
 """What is known of a number by where it comes from, and stays the same through a run."""
+TEST = "test"
 DEPTH = 5
 """How many steps back a range is looked for in what a number was made of."""
 
@@ -184,7 +185,8 @@ class State:
             if term not in reached:
                 reached.add(term)
                 todo += term.of
-        self.known = {term: it for term, it in self.known.items() if term in reached}
+        self.known = {term: it for term, it in self.known.items()
+                      if term in reached or term.how == TEST and reached.issuperset(term.of)}
 
 
 class Join:
@@ -245,6 +247,7 @@ class Join:
         shared = self.one.known.keys() & self.other.known.keys()
         known = {term: ranges.either(self.one.known[term], self.other.known[term])
                  for term in shared if not self.is_old(term)}
+        known = {term: it for term, it in known.items() if term.how != TEST or it.lo == it.hi}
         for (first, second), term in self.named.items():
             known[term] = self.wider(self.one.range_of(first), self.other.range_of(second))
         return State(held, known)

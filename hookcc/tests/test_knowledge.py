@@ -9,7 +9,7 @@ from leafrunt_hookcc import ranges
 from leafrunt_hookcc.guards import Program
 from leafrunt_hookcc.instructions import decoded, encoded
 from leafrunt_hookcc.knowledge import Knowledge
-from leafrunt_hookcc.turns import most_turns
+from leafrunt_hookcc.turns import Walk, most_turns
 from leafrunt_hookcc.values import Term
 
 MASK = (1 << 64) - 1
@@ -131,6 +131,13 @@ class Turns(unittest.TestCase):
                 + slot(0xBF, 8, 2) + slot(0x05, 0, 0, 2) + slot(0xBF, 7, 2)
                 + slot(0x07, 7, 0, 0, 1) + slot(0xAD, 7, 8, -9) + slot(0xB7, 0) + EXIT)
         self.assertEqual(most_turns(decoded(code)), 6)
+
+    def test_a_test_that_comes_again_says_the_same(self) -> None:
+        # r7 = 1; if r6 > r2 goto +1; r7 = 2; if r6 > r2 goto +1; r7 += 8: 1 or 10, never 9
+        code = (FIELD + slot(0x61, 2, 1, 16) + slot(0xB7, 7, 0, 0, 1) + slot(0x2D, 6, 2, 1)
+                + slot(0xB7, 7, 0, 0, 2) + slot(0x2D, 6, 2, 1) + slot(0x07, 7, 0, 0, 8)
+                + slot(0x15, 7, 0, -1, 9) + slot(0xB7, 0) + EXIT)
+        self.assertEqual(Walk(decoded(code), True).most_turns(), 0)
 
     def test_what_nothing_ends(self) -> None:
         code = FIELD + slot(0x55, 6, 0, -1, 0) + slot(0xB7, 0) + EXIT
