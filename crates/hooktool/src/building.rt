@@ -597,7 +597,7 @@ fn no_elf<'a>(
     let hint = match fault {
         elf::ElfFault::NotElf =>
             "  compile C first: clang -O2 -target bpf -mcpu=v3 -c PROGRAM.c -o FILE (Debian's \
-                package clang), or tools/hooktool-build PROGRAM.c\n",
+                package clang), or hookcc PROGRAM.c\n",
         _ => "",
     };
     told(format!(in alloc; "{path}: {fault}\n{hint}"), true)

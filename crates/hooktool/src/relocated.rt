@@ -159,7 +159,7 @@ fn data_advice(section: &[u8]) -> &'static str {
         ", a text: a program has no data of its own, and nobody to tell it to\n"
     } else if section.starts_with(b".rodata") {
         ", a table: a program has no data of its own, write it as a switch or as tests \
-            (tools/hooktool-build does so where no other address meets it), or keep it in cells\n"
+            (hookcc does so where no other address meets it), or keep it in cells\n"
     } else if section.starts_with(b".data") || section.starts_with(b".bss") {
         ", a variable: a program has no data of its own, keep it in a counter or, at count, in a \
             cell\n"

@@ -58,7 +58,7 @@ Example: hooktool build bogons.elf objects
 where bogons.elf is made of C by
   clang -O2 -target bpf -mcpu=v3 -c bogons.c -o bogons.elf
 
-(tools/hooktool-build calls both.) A function is for the hook that its section is named by, as
+(hookcc calls both.) A function is for the hook that its section is named by, as
 SEC(\"veto\") in C, and its object is FOLDER/FUNCTION.o. With --hook also the functions of .text,
 those without SEC, are programs, for that hook. --fuel and --fuel-answer are annotate's.
 
