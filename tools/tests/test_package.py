@@ -43,7 +43,7 @@ class TestPackage(unittest.TestCase):
 
     def test_the_help_of_the_programs_says_this_version(self) -> None:
         version = (TOP / "VERSION").read_text().strip()
-        for file in ("command_line/src/commands.rt", "hooktool_line/src/arguments.rt"):
+        for file in ("commands/src/commands.rt", "hooktool_trials/src/arguments.rt"):
             self.assertIn(f'\n\nLeafrunt {version}";', (TOP / "crates" / file).read_text(), file)
 
     def test_the_commands_of_a_program(self) -> None:
