@@ -27,6 +27,7 @@ class TryPrivate(unittest.TestCase):
             (top / "crates/answers/src/lib.rt").write_text(CODE)
             for number, edit in enumerate(edits):
                 (top / f"crates/answers/mutants/{number}.edit").write_text(edit)
+            (top / "crates/answers/mutants/plants").mkdir()
             (top / "crates/answers/mutants/other.edit").write_text("tried by: a check of the crate\nfile: src/lib.rt\nold: 1\nnew: 2\n")
             (top / "said").write_text("".join(f"{it}\n" for it in said))
             (top / "bin/rt").write_text(f"#!/bin/sh\necho \"$@\" >>{top}/calls\ncat src/lib.rt >{top}/compiled\ncat {top}/said >&2\nexit 1\n")
