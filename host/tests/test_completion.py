@@ -1,6 +1,7 @@
 """Completion for bash and zsh: each command, each option and its values, as the command line has them."""
 import argparse
 import os
+import shlex
 import shutil
 import subprocess
 import sys
@@ -35,7 +36,8 @@ class Completed(unittest.TestCase):
         room = tempfile.TemporaryDirectory()
         self.addCleanup(room.cleanup)
         self.room = Path(room.name)
-        self.program("leafrunt", f'exec {sys.executable} {TOP}/host/leafrunt "$@"')
+        words = shlex.join([sys.executable, str(TOP / "host/leafrunt")])
+        self.program("leafrunt", f'exec {words} "$@"')
         self.program("hooktool", f"cat <<'END'\n{HELP_OF_HOOKTOOL}END")
 
     def program(self, name: str, script: str) -> None:
